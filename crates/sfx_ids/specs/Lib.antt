@@ -1,0 +1,4 @@
+pub mod Tick
+pub mod ItemId
+pub mod Version
+pub mod Cut
