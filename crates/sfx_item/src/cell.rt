@@ -1,0 +1,24 @@
+ghost use Rattle.std.specs.Prelude.{◌≡◌, IfOk};
+
+use crate::Value;
+use sfx_ids::{Memory, Version};
+use std::alloc::Global;
+
+/// What a replica holds of one change unit of an item: a value, and the version that brought it.
+#[derive(Drop)]
+pub struct Cell {
+    pub version: Version,
+    pub value: Value,
+}
+
+impl Cell {
+    /// An equal cell. The one error is want of memory.
+    pub fn copy(&self, alloc: Global) -> Result<Self, Memory>
+        ensures { IfOk result (λ copy. copy ≡ self.now) }
+    {
+        Ok(Cell {
+            version: self.version,
+            value: self.value.copy(alloc)?,
+        })
+    }
+}
