@@ -1,6 +1,11 @@
 pub mod Canonical
+pub mod Machine
+pub mod ReplicaBytes
+pub mod ReplicaFronts
 pub mod ReplicaTexts
 pub mod TickTexts
+pub mod TickFronts
 pub mod PairTexts
+pub mod PairFronts
 pub mod ItemTexts
 pub mod VersionTexts

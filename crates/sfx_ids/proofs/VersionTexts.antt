@@ -1,6 +1,7 @@
 -- A version's text is that of its tick and its replica.
-use Rattle.std.proofs.Common.{◌≡◌, ℕ, ◌<◌, ◌^◌, List, Some, Option, Result, Ok, unwrap_or, ap}
+use Rattle.std.proofs.Common.{◌≡◌, ℕ, ◌<◌, ◌^◌, List, take, Some, Option, Result, Ok, unwrap_or, ap}
 use Rattle.sfx_ids.specs.declared.version.Version.{Version}
+use Rattle.sfx_ids.specs.Front.{BeginsPair, BeginsVersion, IsLongestFront}
 use Rattle.sfx_ids.specs.Version.{IsVersion}
 use Rattle.sfx_ids.specs.Text.{version_text, pair_text, at_sign}
 use Rattle.sfx_ids.specs.Tick.{IsTick}
@@ -25,3 +26,31 @@ same_version tick replica version same =
 pub pair_of_version : (version : Version) (text : List ℕ) → text ≡ version_text version → text ≡ pair_text at_sign version.tick version.replica
 unfolding version_text
 pair_of_version version text is_text = is_text
+
+version_begins : (text : List ℕ) → BeginsPair at_sign text → BeginsVersion text
+unfolding version_text
+version_begins text front = record {
+  version = version_of (front.tick, front.replica);
+  rest = front.rest;
+  valid = record { tick = front.is_tick; replica = front.is_replica };
+  spelled = front.spelled;
+}
+
+begins_version : (text : List ℕ) → BeginsVersion text → BeginsPair at_sign text
+unfolding version_text
+begins_version text front = record {
+  tick = front.version.tick;
+  replica = front.version.replica;
+  rest = front.rest;
+  is_tick = front.valid.tick;
+  is_replica = front.valid.replica;
+  spelled = front.spelled;
+}
+
+-- the longest front that begins a version is the longest that begins its pair
+pub longest_version : (text : List ℕ) (at : ℕ) → IsLongestFront (BeginsPair at_sign) text at → IsLongestFront BeginsVersion text at
+longest_version text at longest = record {
+  within = longest.within;
+  begins = version_begins (take at text) longest.begins;
+  longest = λ n within front. longest.longest n within (begins_version (take n text) front);
+}

@@ -1,4 +1,4 @@
-use Rattle.std.specs.Prelude.{◌≡◌, ℕ, ◌+◌, ◌-◌, ◌*◌, ◌^◌, ◌<◌, ◌≤◌, ◌==◌, ◌&&◌, ◌||◌, if◌then◌else◌, nat_le, Bool, Option, Some, None, List, ◌++◌, length, take, decimal}
+use Rattle.std.specs.Prelude.{◌≡◌, ℕ, ◌+◌, ◌-◌, ◌*◌, ◌^◌, ◌<◌, ◌≤◌, ◌==◌, ◌&&◌, ◌||◌, if◌then◌else◌, nat_le, nat_lt, Bool, Option, Some, None, List, ◌++◌, length, take, decimal}
 use Rattle.std.specs.Char.{is_ascii_digit}
 use Rattle.uuid.specs.Text.{is_hyphen_place, hyphen}
 use Rattle.sfx_ids.specs.Tick.{IsTick, max_tick}
@@ -60,5 +60,6 @@ next_tick number byte =
 -- a byte may stand at this place of a replica's text
 abbrev pub fits_place : ℕ → ℕ → Bool
 fits_place place byte =
-    if is_hyphen_place place then byte == hyphen
-    else is_ascii_digit byte || (nat_le 97 byte && nat_le byte 102)
+    nat_lt place 36
+    && (if is_hyphen_place place then byte == hyphen
+    else is_ascii_digit byte || (nat_le 97 byte && nat_le byte 102))

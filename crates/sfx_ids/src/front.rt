@@ -9,10 +9,10 @@ use crate::replica_text::REPLICA_LEN;
 /// this separator.
 pub fn front_len(text: &[u8], separator: u8) -> usize
     requires { IsSeparator separator }
-    ensures { result ≤ length text.now }
+    ensures { IsLongestFront (BeginsPair separator) text.now result }
 {
     let digits = tick_front_len(text);
-    if digits == 0 || text.get(digits) != Some(&separator) {
+    if digits == 0 || digits == text.len() || text[digits] != separator {
         return digits;
     }
     digits + 1 + replica_front_len(&text[digits + 1..])
@@ -20,7 +20,7 @@ pub fn front_len(text: &[u8], separator: u8) -> usize
 
 /// The length of the longest front of the text that begins some tick's digits.
 fn tick_front_len(text: &[u8]) -> usize
-    ensures { result ≤ length text.now }
+    ensures { IsLongestFront BeginsTick text.now result }
 {
     let mut number = 0;
     for (i, byte) in text.iter().enumerate() {
@@ -50,10 +50,10 @@ fn next_tick(number: u64, byte: u8) -> Option<u64>
 
 /// The length of the longest front of the text that begins some replica's text.
 fn replica_front_len(text: &[u8]) -> usize
-    ensures { result ≤ length text.now }
+    ensures { IsLongestFront BeginsReplica text.now result }
 {
     for (place, byte) in text.iter().enumerate() {
-        if place >= REPLICA_LEN || !fits_place(place, *byte) {
+        if !fits_place(place, *byte) {
             return place;
         }
     }
@@ -62,11 +62,10 @@ fn replica_front_len(text: &[u8]) -> usize
 
 /// Whether the byte may stand at this place of a replica's text.
 fn fits_place(place: usize, byte: u8) -> bool
-    requires { place < 36 }
     ensures { result ≡ fits_place place byte }
 {
     match place {
         8 | 13 | 18 | 23 => byte == b'-',
-        _ => matches!(byte, b'0'..=b'9' | b'a'..=b'f'),
+        _ => place < REPLICA_LEN && matches!(byte, b'0'..=b'9' | b'a'..=b'f'),
     }
 }

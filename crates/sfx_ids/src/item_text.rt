@@ -39,6 +39,7 @@ pub fn write_item(out: &mut Vec<u8>, id: &ItemId) -> Result<(), Memory>
 pub fn parse_item(text: &str) -> Result<ItemId, BadItemId>
     ensures ok { IfOk result (λ id. IsItemId id × (text.now ≡ item_text id)) }
     ensures only { (id : ItemId) → IsItemId id → text.now ≡ item_text id → result ≡ Ok id }
+    ensures err { IfErr result (λ bad. IsLongestFront BeginsItem text.now bad.at) }
 {
     match read_pair(text, b':') {
         Some(pair) => Ok(ItemId {

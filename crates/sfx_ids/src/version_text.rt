@@ -39,6 +39,7 @@ pub fn write_version(out: &mut Vec<u8>, version: &Version) -> Result<(), Memory>
 pub fn parse_version(text: &str) -> Result<Version, BadVersion>
     ensures ok { IfOk result (λ version. IsVersion version × (text.now ≡ version_text version)) }
     ensures only { (version : Version) → IsVersion version → text.now ≡ version_text version → result ≡ Ok version }
+    ensures err { IfErr result (λ bad. IsLongestFront BeginsVersion text.now bad.at) }
 {
     match read_pair(text, b'@') {
         Some(pair) => Ok(Version {
