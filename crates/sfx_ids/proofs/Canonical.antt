@@ -1,18 +1,15 @@
 -- A value that is read and written again: its text is the text that was read, where that is a text of the value wanted.
-use Rattle.std.proofs.Common.{◌≡◌, ℕ, List, Some, Option, unwrap_or, true, true≢false, None, IsSome, IfSome, ◌↔◌, subst, sym, ap, ◌∙◌}
+use Rattle.std.proofs.Common.{◌≡◌, ℕ, List, Some, Option, true, true≢false, None, IsSome, IfSome, ◌↔◌, subst, sym, ap, ◌∙◌}
 use Rattle.sfx_ids.specs.Tick.{IsTick}
+use Rattle.std.proofs.lemmas.Option.{same_Some}
 use Rattle.std.proofs.lemmas.Slice.Eq.{bytes_eq-Decides}
 use Rattle.std.specs.Str.{bytes_eq}
-
--- the two values in a `Some` are one
-pub same_value : (x y : ℕ) → Some x ≡ Some y → x ≡ y
-same_value x y same = ap (λ (o : Option ℕ). unwrap_or o 0) same
 
 -- what was written again is the text
 pub is_own : (spell : ℕ → List ℕ) (text written : List ℕ) (read wanted : ℕ) → Some read ≡ Some wanted → written ≡ spell read → text ≡ spell wanted
     → written ≡ text
 is_own spell text written read wanted same is_written is_text =
-    is_written ∙ ap spell (same_value read wanted same) ∙ sym is_text
+    is_written ∙ ap spell (same_Some read wanted same) ∙ sym is_text
 
 -- and so the comparison of both says
 pub is_equal : (xs ys : List ℕ) → xs ≡ ys → bytes_eq xs ys ≡ true

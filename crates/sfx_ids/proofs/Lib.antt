@@ -1,3 +1,5 @@
+pub mod CutOrder
+pub mod CutTexts
 pub mod Canonical
 pub mod Machine
 pub mod ReplicaBytes

@@ -1,5 +1,5 @@
 -- A text is cut where a tick and a replica meet.
-use Rattle.std.proofs.Common.{◌≡◌, ℕ, ◌<◌, ◌^◌, List, Option, Some, None, MatchOption, decimal, arith, refl, sym, ap, is_some, true≢false}
+use Rattle.std.proofs.Common.{◌≡◌, ℕ, ◌<◌, ◌^◌, List, Option, Some, MatchOption, decimal, arith, refl}
 use Rattle.std.proofs.lemmas.Str.Pattern.{IsSplitOnceResult, split_after}
 use Rattle.sfx_ids.specs.Text.{IsSeparator, pair_text, replica_text}
 use Rattle.sfx_ids.specs.Tick.{IsTick}
@@ -16,7 +16,3 @@ cut_at_separator separator text r split fits tick replica is_tick is_text =
 pub same_pair : (a b c d : ℕ) → a ≡ c → b ≡ d
     → let p : ℕ × ℕ = (a, b) in let q : ℕ × ℕ = (c, d) in Some p ≡ Some q
 same_pair a b c d first second = rw (first, second) refl
-
--- nothing is both `None` and a `Some`
-pub none_some : {A : Type 0} (x : A) → None ≡ Some x → ⊥
-none_some x same = true≢false (sym (ap is_some same))

@@ -8,9 +8,11 @@ use Rattle.std.proofs.lemmas.Option.{cond_some, option_and_then_some}
 use Rattle.std.specs.Int.{from_be_bytes, to_be_bytes, w128}
 use Rattle.uuid.specs.Text.{by_index, hex_digit, nibble, lower, hyphen, is_hyphen_place, digit_place, hyphen_place, digits_of, value_of, byte_of_digits, hyphenated_text}
 use Rattle.uuid.proofs.TextLemmas.{by_index_length, by_index_at, by_index_same, nibble_even, nibble_odd, nibble_small, take_same}
-use Rattle.sfx_ids.specs.Front.{BeginsReplica, fits_place}
+use Rattle.sfx_ids.specs.Front.{BeginsReplica}
+use Rattle.sfx_ids.specs.Steps.{fits_place}
 use Rattle.sfx_ids.specs.Text.{replica_text}
 use Rattle.sfx_ids.proofs.Machine.{run, ReadsFronts}
+use Rattle.sfx_ids.proofs.ReplicaTexts.{length-replica_text}
 use Rattle.sfx_ids.proofs.ReplicaBytes.{AreBytes, number_fits, to_be_bytes-from_be_bytes_16}
 
 -- the step over a place: the next place, where the byte fits this one
@@ -73,10 +75,6 @@ text_fits replica place within =
     let character = by_index_at 36 (λ k. if is_hyphen_place k then hyphen else hex_digit lower (nibble bytes (digit_place k))) place 0 within in
     ap (fits_place place) character
     ∙ fits_at (is_hyphen_place place) place (nibble bytes (digit_place place)) refl within (nibble_small bytes (digit_place place))
-
-length-replica_text : (replica : ℕ) → length (replica_text replica) ≡ 36
-unfolding replica_text
-length-replica_text replica = by_index_length 36 _
 
 reads : (text : List ℕ) → BeginsReplica text → (end : ℕ) × (run next_place 0 text ≡ Some end)
 reads text front =

@@ -5,6 +5,7 @@ use Rattle.std.specs.List.{AllByRecursion}
 use Rattle.std.specs.Int.{from_be_bytes, to_be_bytes, w128}
 use Rattle.uuid.specs.Text.{parsed, lower}
 use Rattle.uuid.proofs.RoundTrips.{parses_hyphenated}
+use Rattle.uuid.proofs.TextLemmas.{by_index_length}
 use Rattle.uuid.proofs.OrderLemmas.{from_be_bytes-to_be_bytes_16}
 use Rattle.sfx_ids.specs.Text.{replica_text}
 
@@ -30,12 +31,17 @@ pub refused : {E : Type 0} (r : Result (List ℕ) E) (e : E) (text : List ℕ) �
 refused r e text is ok =
     none_read (parsed text) (λ u read. true≢false (sym (ok.1 (u, read)) ∙ ap is_ok is))
 
--- what `uuid` reads of a replica's text
-pub parsed-replica_text : (n : ℕ) → n < 2 ^ 128 → option_map (from_be_bytes w128) (parsed (replica_text n)) ≡ Some n
+pub length-replica_text : (n : ℕ) → length (replica_text n) ≡ 36
 unfolding replica_text
-parsed-replica_text n fits =
-    let reads = parses_hyphenated lower (to_be_bytes w128 n) (inl refl) (length-to_be_bytes_16 n) (bytes_fit n) in
-    ap (option_map (from_be_bytes w128)) (sym reads) ∙ ap Some (from_be_bytes-to_be_bytes_16 n fits)
+length-replica_text n = by_index_length 36 _
+
+-- what `uuid` reads of a replica's text
+pub uuid_reads : (n : ℕ) → parsed (replica_text n) ≡ Some (to_be_bytes w128 n)
+unfolding replica_text
+uuid_reads n = sym (parses_hyphenated lower (to_be_bytes w128 n) (inl refl) (length-to_be_bytes_16 n) (bytes_fit n))
+
+pub parsed-replica_text : (n : ℕ) → n < 2 ^ 128 → option_map (from_be_bytes w128) (parsed (replica_text n)) ≡ Some n
+parsed-replica_text n fits = ap (option_map (from_be_bytes w128)) (uuid_reads n) ∙ ap Some (from_be_bytes-to_be_bytes_16 n fits)
 
 -- the answer of a reader of all forms at a replica's text
 pub reads_replica : (r : Option ℕ) (text : List ℕ) → r ≡ option_map (from_be_bytes w128) (parsed text) → (id : ℕ) → id < 2 ^ 128

@@ -5,7 +5,8 @@ use Rattle.std.proofs.lemmas.Fmt.{decimal_by_steps, decimal_digit, decimal_step}
 use Rattle.std.proofs.lemmas.List.{append-nil}
 use Rattle.std.proofs.lemmas.Option.{same_Some, cond_some, option_and_then_some}
 use Rattle.std.specs.Char.{is_ascii_digit}
-use Rattle.sfx_ids.specs.Front.{BeginsTick, next_tick}
+use Rattle.sfx_ids.specs.Front.{BeginsTick}
+use Rattle.sfx_ids.specs.Steps.{next_tick}
 use Rattle.sfx_ids.specs.Tick.{IsTick, max_tick}
 use Rattle.sfx_ids.proofs.Machine.{run, run-push, run_front, ReadsFronts}
 

@@ -4,3 +4,4 @@ pub mod Version
 pub mod Cut
 pub mod Text
 pub mod Front
+pub mod Steps

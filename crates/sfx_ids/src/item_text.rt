@@ -25,7 +25,7 @@ impl fmt::Display for BadItemId {
 
 impl Error for BadItemId {}
 
-/// Appends the text of an item: its tick, `:` and its replica. Where memory is wanted, nothing is
+/// Appends the text of an item: its tick, `:` and its replica. Where memory runs out, nothing is
 /// appended.
 #[tactic(auto, unfolding(crate::specs::Text::item_text))]
 pub fn write_item(out: &mut Vec<u8>, id: &ItemId) -> Result<(), Memory>

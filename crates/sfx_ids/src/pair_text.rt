@@ -6,7 +6,7 @@ use crate::replica_text::{REPLICA_LEN, parse_replica_exact, text_of};
 use crate::{Memory, ReplicaId, Tick};
 use itoa::Buffer;
 
-/// Appends a tick, the separator and a replica, or nothing where memory is wanted.
+/// Appends a tick, the separator and a replica, or nothing where memory runs out.
 pub fn write_pair(
     out: &mut Vec<u8>,
     tick: &Tick,

@@ -9,8 +9,8 @@ use uuid::Uuid;
 /// How many bytes the text of a replica has.
 pub const REPLICA_LEN: usize = 36;
 
-/// Appends the text of a replica: 36 lower-case hyphenated characters (RFC 9562). Where memory is
-/// wanted, nothing is appended.
+/// Appends the text of a replica: 36 lower-case hyphenated characters (RFC 9562). Where memory
+/// runs out, nothing is appended.
 pub fn write_replica(out: &mut Vec<u8>, id: &ReplicaId) -> Result<(), Memory>
     ensures ok { OnOk result (out.new.items ≡ out.old.items ++ replica_text id.now) }
     ensures err { OnErr result (out.new.items ≡ out.old.items) }

@@ -25,7 +25,7 @@ impl fmt::Display for BadVersion {
 
 impl Error for BadVersion {}
 
-/// Appends the text of a version: its tick, `@` and its replica. Where memory is wanted, nothing is
+/// Appends the text of a version: its tick, `@` and its replica. Where memory runs out, nothing is
 /// appended.
 #[tactic(auto, unfolding(crate::specs::Text::version_text))]
 pub fn write_version(out: &mut Vec<u8>, version: &Version) -> Result<(), Memory>

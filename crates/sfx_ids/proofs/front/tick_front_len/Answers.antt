@@ -1,5 +1,6 @@
 use Rattle.std.proofs.Common.{get_or, sym, ◌∙◌}
-use Rattle.sfx_ids.specs.Front.{BeginsTick, next_tick}
+use Rattle.sfx_ids.specs.Front.{BeginsTick}
+use Rattle.sfx_ids.specs.Steps.{next_tick}
 use Rattle.sfx_ids.proofs.Machine.{run_more, longest_at_stop, longest_at_end}
 use Rattle.sfx_ids.proofs.TickFronts.{goes_on, tick_fronts}
 use Rattle.sfx_ids.proofs.front.tick_front_len.Goals as goal

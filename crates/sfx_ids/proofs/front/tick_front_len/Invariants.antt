@@ -1,5 +1,5 @@
 use Rattle.std.proofs.Common.{◌≡◌, ◌≤◌, Some, take}
-use Rattle.sfx_ids.specs.Front.{next_tick}
+use Rattle.sfx_ids.specs.Steps.{next_tick}
 use Rattle.sfx_ids.specs.Tick.{max_tick}
 use Rattle.sfx_ids.proofs.Machine.{run}
 use Rattle.sfx_ids.proofs.front.tick_front_len.Given as goal
