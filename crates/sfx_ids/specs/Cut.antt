@@ -1,6 +1,7 @@
 use Rattle.std.specs.Prelude.{ℕ, Bool, ◌&&◌}
 use Rattle.std.specs.declared.cmp.Ordering.{Ordering}
 use Rattle.std.specs.Ordering.{nat_cmp, on, then_cmp, is_lt, is_le}
+use Rattle.sfx_ids.specs.ItemId.{IsItemId}
 use Rattle.sfx_ids.specs.declared.cut.Cut.{Cut}
 use Rattle.sfx_ids.specs.declared.cut.Cut.TheVariants.{Start, At, After, End}
 
@@ -17,6 +18,13 @@ rank_of Start = record { part = 0; tick = 0; replica = 0; side = 0 }
 rank_of (At x) = record { part = 1; tick = x.tick; replica = x.replica; side = 0 }
 rank_of (After x) = record { part = 1; tick = x.tick; replica = x.replica; side = 1 }
 rank_of End = record { part = 2; tick = 0; replica = 0; side = 0 }
+
+-- a cut as the program has it: its item, where it has one, is in range
+abbrev pub IsCut : Cut → Type 0
+IsCut Start = Unit {0}
+IsCut (At x) = IsItemId x
+IsCut (After x) = IsItemId x
+IsCut End = Unit {0}
 
 -- the order of cuts
 abbrev pub cut_cmp : Cut → Cut → Ordering

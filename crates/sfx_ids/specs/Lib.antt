@@ -2,3 +2,6 @@ pub mod Tick
 pub mod ItemId
 pub mod Version
 pub mod Cut
+pub mod Text
+pub mod Front
+pub mod Steps

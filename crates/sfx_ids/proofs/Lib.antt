@@ -1,0 +1,13 @@
+pub mod CutOrder
+pub mod CutTexts
+pub mod Canonical
+pub mod Machine
+pub mod ReplicaBytes
+pub mod ReplicaFronts
+pub mod ReplicaTexts
+pub mod TickTexts
+pub mod TickFronts
+pub mod PairTexts
+pub mod PairFronts
+pub mod ItemTexts
+pub mod VersionTexts

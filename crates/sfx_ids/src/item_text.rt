@@ -1,0 +1,53 @@
+ghost use Rattle.std.specs.Prelude.{◌≡◌, ◌++◌, Ok, OnOk, OnErr, IfOk, IfErr};
+ghost use Rattle.sfx_ids.specs.declared.item_id.ItemId.{ItemId};
+ghost use Rattle.sfx_ids.specs.Front.{BeginsItem, IsLongestFront};
+ghost use Rattle.sfx_ids.specs.ItemId.{IsItemId};
+ghost use Rattle.sfx_ids.specs.Text.{item_text};
+
+use crate::front::front_len;
+use crate::pair_text::{read_pair, write_pair};
+use crate::{ItemId, Memory};
+use std::error::Error;
+use std::fmt;
+
+/// A text that is no item's.
+#[derive(Clone, Copy, Debug, PartialEq, Eq, Hash)]
+pub struct BadItemId {
+    /// The length in bytes of the longest front of the text that begins some item's text.
+    pub at: usize,
+}
+
+impl fmt::Display for BadItemId {
+    fn fmt<W: fmt::Write>(&self, f: &mut fmt::Formatter<W>) -> fmt::Result {
+        write!(f, "no item has this text, from byte {} on", self.at)
+    }
+}
+
+impl Error for BadItemId {}
+
+/// Appends the text of an item: its tick, `:` and its replica. Where memory runs out, nothing is
+/// appended.
+#[tactic(auto, unfolding(crate::specs::Text::item_text))]
+pub fn write_item(out: &mut Vec<u8>, id: &ItemId) -> Result<(), Memory>
+    ensures ok { OnOk result (out.new.items ≡ out.old.items ++ item_text id.now) }
+    ensures err { OnErr result (out.new.items ≡ out.old.items) }
+{
+    write_pair(out, &id.tick, b':', &id.replica)
+}
+
+/// The item whose text this is. Each item has one text, that of `write_item`.
+pub fn parse_item(text: &str) -> Result<ItemId, BadItemId>
+    ensures ok { IfOk result (λ id. IsItemId id × (text.now ≡ item_text id)) }
+    ensures only { (id : ItemId) → IsItemId id → text.now ≡ item_text id → result ≡ Ok id }
+    ensures err { IfErr result (λ bad. IsLongestFront BeginsItem text.now bad.at) }
+{
+    match read_pair(text, b':') {
+        Some(pair) => Ok(ItemId {
+            tick: pair.0,
+            replica: pair.1,
+        }),
+        None => Err(BadItemId {
+            at: front_len(text.as_bytes(), b':'),
+        }),
+    }
+}

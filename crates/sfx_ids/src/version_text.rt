@@ -1,0 +1,53 @@
+ghost use Rattle.std.specs.Prelude.{◌≡◌, ◌++◌, Ok, OnOk, OnErr, IfOk, IfErr};
+ghost use Rattle.sfx_ids.specs.declared.version.Version.{Version};
+ghost use Rattle.sfx_ids.specs.Front.{BeginsVersion, IsLongestFront};
+ghost use Rattle.sfx_ids.specs.Version.{IsVersion};
+ghost use Rattle.sfx_ids.specs.Text.{version_text};
+
+use crate::front::front_len;
+use crate::pair_text::{read_pair, write_pair};
+use crate::{Memory, Version};
+use std::error::Error;
+use std::fmt;
+
+/// A text that is no version's.
+#[derive(Clone, Copy, Debug, PartialEq, Eq, Hash)]
+pub struct BadVersion {
+    /// The length in bytes of the longest front of the text that begins some version's text.
+    pub at: usize,
+}
+
+impl fmt::Display for BadVersion {
+    fn fmt<W: fmt::Write>(&self, f: &mut fmt::Formatter<W>) -> fmt::Result {
+        write!(f, "no version has this text, from byte {} on", self.at)
+    }
+}
+
+impl Error for BadVersion {}
+
+/// Appends the text of a version: its tick, `@` and its replica. Where memory runs out, nothing is
+/// appended.
+#[tactic(auto, unfolding(crate::specs::Text::version_text))]
+pub fn write_version(out: &mut Vec<u8>, version: &Version) -> Result<(), Memory>
+    ensures ok { OnOk result (out.new.items ≡ out.old.items ++ version_text version.now) }
+    ensures err { OnErr result (out.new.items ≡ out.old.items) }
+{
+    write_pair(out, &version.tick, b'@', &version.replica)
+}
+
+/// The version whose text this is. Each version has one text, that of `write_version`.
+pub fn parse_version(text: &str) -> Result<Version, BadVersion>
+    ensures ok { IfOk result (λ version. IsVersion version × (text.now ≡ version_text version)) }
+    ensures only { (version : Version) → IsVersion version → text.now ≡ version_text version → result ≡ Ok version }
+    ensures err { IfErr result (λ bad. IsLongestFront BeginsVersion text.now bad.at) }
+{
+    match read_pair(text, b'@') {
+        Some(pair) => Ok(Version {
+            replica: pair.1,
+            tick: pair.0,
+        }),
+        None => Err(BadVersion {
+            at: front_len(text.as_bytes(), b'@'),
+        }),
+    }
+}
