@@ -1,0 +1,6 @@
+pub mod Sets
+pub mod World
+pub mod Events
+pub mod Members
+pub mod Headline
+pub mod Results
