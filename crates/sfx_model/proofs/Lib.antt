@@ -2,3 +2,5 @@ pub mod Words
 pub mod Sets
 pub mod Frame
 pub mod Sites
+pub mod Recording
+pub mod Steps
