@@ -4,3 +4,4 @@ pub mod Frame
 pub mod Sites
 pub mod Recording
 pub mod Steps
+pub mod Making
