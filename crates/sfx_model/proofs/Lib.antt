@@ -5,3 +5,4 @@ pub mod Sites
 pub mod Recording
 pub mod Steps
 pub mod Making
+pub mod Learning
