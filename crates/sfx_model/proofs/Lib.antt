@@ -6,3 +6,4 @@ pub mod Recording
 pub mod Steps
 pub mod Making
 pub mod Learning
+pub mod Marks
