@@ -7,3 +7,4 @@ pub mod Steps
 pub mod Making
 pub mod Learning
 pub mod Marks
+pub mod Entering
