@@ -8,3 +8,5 @@ pub mod Making
 pub mod Learning
 pub mod Marks
 pub mod Entering
+pub mod Copying
+pub mod Widening
