@@ -10,3 +10,5 @@ pub mod Marks
 pub mod Entering
 pub mod Copying
 pub mod Widening
+pub mod Shapes
+pub mod Keeping
