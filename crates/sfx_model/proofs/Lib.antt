@@ -12,3 +12,4 @@ pub mod Copying
 pub mod Widening
 pub mod Shapes
 pub mod Keeping
+pub mod Refusals
