@@ -13,3 +13,4 @@ pub mod Widening
 pub mod Shapes
 pub mod Keeping
 pub mod Refusals
+pub mod Accepted
