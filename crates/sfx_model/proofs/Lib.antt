@@ -14,3 +14,4 @@ pub mod Shapes
 pub mod Keeping
 pub mod Refusals
 pub mod Accepted
+pub mod Run

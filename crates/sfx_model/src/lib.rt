@@ -2,6 +2,6 @@
 //! represents its part of a world, and the laws of these.
 #![tactic(auto)]
 
-pub use world::{events_keep, examples, marks_agree};
+pub use world::{events_keep, examples, marks_agree, short_run};
 
 mod world;
