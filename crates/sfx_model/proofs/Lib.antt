@@ -1,0 +1,17 @@
+pub mod Words
+pub mod Sets
+pub mod Frame
+pub mod Sites
+pub mod Recording
+pub mod Steps
+pub mod Making
+pub mod Learning
+pub mod Marks
+pub mod Entering
+pub mod Copying
+pub mod Widening
+pub mod Shapes
+pub mod Keeping
+pub mod Refusals
+pub mod Accepted
+pub mod Run

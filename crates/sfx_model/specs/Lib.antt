@@ -1,0 +1,8 @@
+pub mod Sets
+pub mod World
+pub mod Events
+pub mod Members
+pub mod Headline
+pub mod Results
+pub mod Agreement
+pub mod Examples

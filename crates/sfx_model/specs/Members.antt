@@ -1,0 +1,197 @@
+use Rattle.std.specs.Prelude.{◌≡◌, ℕ, ◌<◌, ◌≤◌, Bool, true, false, if◌then◌else◌, nat_eq, nat_le, ◌⊎◌, ◌↔◌, List, [], ◌∷◌, length, Option, Some, None, slice_get}
+use Rattle.sfx_ids.specs.declared.cut.Cut.{Cut}
+use Rattle.sfx_ids.specs.declared.cut.Cut.TheVariants.{At}
+use Rattle.sfx_ids.specs.declared.item_id.ItemId.{ItemId}
+use Rattle.sfx_ids.specs.declared.version.Version.{Version}
+use Rattle.sfx_ids.specs.Cut.{cut_le}
+use Rattle.sfx_item.specs.declared.cell.Cell.{Cell}
+use Rattle.sfx_model.specs.Sets.{Has}
+use Rattle.sfx_model.specs.World.{Written, Record, Site, World, Holding, holding, IsAt, Made, IsLatest, IsDeadAt, IsContained}
+use Rattle.sfx_model.specs.Events.{same_item}
+
+-- A clock vector: pairs of a replica and a tick, ascending by replica; a replica that is not listed has
+-- the tick 0.
+abbrev pub Clocks : Type 0
+Clocks = List (ℕ × ℕ)
+
+-- One clock vector for each unit: `base` at every unit but those of `others`, which are listed with
+-- their own.
+pub record UnitRow : Type 0 where
+  pub base : Clocks
+  pub others : List (ℕ × Clocks)
+
+-- What a replica holds of a present item: a cell for each unit of a live one, and the version of the
+-- deletion for a dead one, a tombstone.
+pub data ItemState : Type 0 where
+  Live : (cells : List Cell) → ItemState
+  Dead : (version : Version) → ItemState
+
+-- A present item of a replica.
+pub record MemberItem : Type 0 where
+  pub id : ItemId
+  pub state : ItemState
+
+-- A replica's state as plain data. Knowledge and forgotten deletions are lists of segments, each with
+-- the place from which it counts; the items are in order of their ids.
+pub record Member : Type 0 where
+  pub id : ℕ
+  pub clock : ℕ
+  pub knowledge : List (Cut × UnitRow)
+  pub forgotten : List (Cut × Clocks)
+  pub items : List MemberItem
+
+-- The vector's tick for the replica.
+abbrev pub tick_of : Clocks → ℕ → ℕ
+tick_of [] r = 0
+tick_of (c ∷ cs) r = if nat_eq c.0 r then c.1 else tick_of cs r
+
+-- The vector that the list has for the unit, or else the given one.
+abbrev pub unit_clocks : Clocks → List (ℕ × Clocks) → ℕ → Clocks
+unit_clocks base [] u = base
+unit_clocks base (o ∷ os) u = if nat_eq o.0 u then o.1 else unit_clocks base os u
+
+-- The vector of the row at the unit.
+abbrev pub row_at : UnitRow → ℕ → Clocks
+row_at row u = unit_clocks row.base row.others u
+
+-- The value of the last segment that begins no later than the place, and the given one where there is
+-- none.
+abbrev pub segment_at : {A : Type 0} → A → List (Cut × A) → Cut → A
+segment_at before [] place = before
+segment_at before (p ∷ ps) place = if cut_le p.0 place then segment_at p.1 ps place else before
+
+-- The row of a replica that knows nothing.
+abbrev pub no_row : UnitRow
+no_row = record { base = []; others = [] }
+
+-- The vector that the knowledge has at the place, for the unit.
+abbrev pub clocks_at : List (Cut × UnitRow) → Cut → ℕ → Clocks
+clocks_at knowledge place u = row_at (segment_at no_row knowledge place) u
+
+-- What the member knows at the place of the unit: a tick for each replica, that of its own being its
+-- clock.
+abbrev pub vector_at : Member → Cut → ℕ → ℕ → ℕ
+vector_at m place u r = if nat_eq r m.id then m.clock else tick_of (clocks_at m.knowledge place u) r
+
+-- Whether the member's knowledge of the cell contains the version.
+abbrev pub contains : Member → ItemId → ℕ → Version → Bool
+contains m i u v = nat_le v.tick (vector_at m (At i) u v.replica)
+
+-- The forgotten deletions at the place.
+abbrev pub fvec : List (Cut × Clocks) → Cut → Clocks
+fvec forgotten place = segment_at [] forgotten place
+
+-- What a replica's state says of a world: its clock, at each place and unit what it knows, at each place
+-- what it has forgotten, and its present items. Two states that say the same are alike here, however
+-- their lists are cut.
+pub record Shown : Type 0 where
+  pub id : ℕ
+  pub clock : ℕ
+  pub vector_at : Cut → ℕ → ℕ → ℕ
+  pub forgotten : Cut → ℕ → ℕ
+  pub items : List MemberItem
+
+-- What the member's state says.
+abbrev pub shown : Member → Shown
+shown m = record {
+  id = m.id;
+  clock = m.clock;
+  vector_at = vector_at m;
+  forgotten = λ place r. tick_of (fvec m.forgotten place) r;
+  items = m.items;
+}
+
+-- The state of the item with this id.
+abbrev pub state_of : List MemberItem → ItemId → Option ItemState
+state_of [] i = None
+state_of (x ∷ xs) i = if same_item x.id i then Some x.state else state_of xs i
+
+-- The clock of the replica with this id, and 0 where the world has no such replica.
+abbrev pub clock_of : List Site → ℕ → ℕ
+clock_of [] r = 0
+clock_of (s ∷ ss) r = if nat_eq s.id r then s.clock else clock_of ss r
+
+-- The cell is that of the latest known version: it has this version, and the bytes that its record has.
+pub record IsLatestCell (rs : List Record) (i : ItemId) (u : ℕ) (vs : List Version) (c : Cell) : Type 0 where
+  pub latest : IsLatest rs i u vs c.version
+  pub value : (r : Record) × Has r rs × IsAt r i u c.version × (r.content ≡ Written c.value)
+
+-- A live state has a cell for each unit, each of them the latest.
+pub record AreLatestCells (units : ℕ) (rs : List Record) (i : ItemId) (known : ℕ → List Version) (cells : List Cell) : Type 0 where
+  pub whole : length cells ≡ units
+  pub each : (u : ℕ) (c : Cell) → slice_get cells u ≡ Some c → IsLatestCell rs i u (known u) c
+
+-- The state has the latest known version of each unit, and is dead exactly where these delete.
+abbrev pub IsLatestState : ℕ → List Record → ItemId → (ℕ → List Version) → ItemState → Type 0
+IsLatestState units rs i known (Live cells) = AreLatestCells units rs i known cells
+IsLatestState units rs i known (Dead v) = IsDeadAt units rs i known v
+
+-- The item is present at the site, with this state.
+pub record IsHeld (units : ℕ) (rs : List Record) (i : ItemId) (h : Holding) (state : ItemState) : Type 0 where
+  pub is_present : h.present ≡ true
+  pub latest : IsLatestState units rs i h.known state
+
+-- The member has the item just as the site has it.
+abbrev pub ItemRepresents : ℕ → List Record → ItemId → Holding → Option ItemState → Type 0
+ItemRepresents units rs i h None = h.present ≡ false
+ItemRepresents units rs i h (Some state) = IsHeld units rs i h state
+
+-- Id, clock and forgotten deletions are the site's.
+pub record SameHeader (s : Site) (m : Shown) : Type 0 where
+  pub id : m.id ≡ s.id
+  pub clock : m.clock ≡ s.clock
+  pub forgotten : (place : Cut) (r : ℕ) → m.forgotten place r ≡ s.forgotten place r
+
+-- No entry of a vector passes the clock of its replica, and none names a replica that the world lacks.
+pub record IsBounded (sites : List Site) (m : Shown) : Type 0 where
+  pub vectors : (place : Cut) (u r : ℕ) → m.vector_at place u r ≤ clock_of sites r
+  pub forgotten : (place : Cut) (r : ℕ) → m.forgotten place r ≤ clock_of sites r
+
+-- A member's state represents its site in the world.
+pub record Represents (w : World) (s : Site) (m : Shown) : Type 0 where
+  -- its knowledge of a cell contains exactly those made versions that the site knows
+  pub exact : (i : ItemId) (u : ℕ) (v : Version) → Made w.records i u v → IsContained (m.vector_at (At i) u) v ↔ Has v (s.known i u)
+  -- its items are the site's, with the latest versions and their values
+  pub items : (i : ItemId) → ItemRepresents w.units w.records i (holding s i) (state_of m.items i)
+  -- so are its id, clock and forgotten deletions
+  pub header : SameHeader s m
+  -- its vectors stay within the clocks of the world
+  pub bounded : IsBounded w.sites m
+
+-- The first id comes before the second: ids are in order by tick, then by replica.
+abbrev pub IsIdBelow : ItemId → ItemId → Type 0
+IsIdBelow i j = (i.tick < j.tick) ⊎ ((i.tick ≡ j.tick) × (i.replica < j.replica))
+
+-- The items are in order of their ids, and no two have the same.
+abbrev pub AreRising : List MemberItem → Type 0
+AreRising [] = Unit {0}
+AreRising (x ∷ xs) = ((y : MemberItem) → Has y xs → IsIdBelow x.id y.id) × AreRising xs
+
+-- A member under the name of its replica.
+pub record NamedMember : Type 0 where
+  pub name : List ℕ
+  pub member : Member
+
+-- The members of a program's state, with the unit count that all their items have, 0 while there is none.
+pub record Community : Type 0 where
+  pub units : ℕ
+  pub members : List NamedMember
+
+-- The member has the name of the site and represents it, and its items are in order.
+pub record RepresentsNamed (w : World) (s : Site) (m : NamedMember) : Type 0 where
+  pub name : m.name ≡ s.name
+  pub represents : Represents w s (shown m.member)
+  pub rising : AreRising m.member.items
+
+-- The members represent the sites, one by one and in order.
+abbrev pub RepresentsAll : World → List Site → List NamedMember → Type 0
+RepresentsAll w [] [] = Unit {0}
+RepresentsAll w [] (m ∷ ms) = ⊥
+RepresentsAll w (s ∷ ss) [] = ⊥
+RepresentsAll w (s ∷ ss) (m ∷ ms) = RepresentsNamed w s m × RepresentsAll w ss ms
+
+-- The state represents the world: they agree in the unit count and in number, names and order of the
+-- replicas, and each member represents its site.
+pub record RepresentsWorld (w : World) (c : Community) : Type 0 where
+  pub units : c.units ≡ w.units
+  pub members : RepresentsAll w w.sites c.members

@@ -1,0 +1,7 @@
+//! The model of a community of replicas: the world, its events, what it means that a replica's state
+//! represents its part of a world, and the laws of these.
+#![tactic(auto)]
+
+pub use world::{events_keep, examples, marks_agree, short_run};
+
+mod world;
