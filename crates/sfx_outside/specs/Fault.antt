@@ -1,0 +1,7 @@
+-- Counts of faults.
+use Rattle.std.specs.Prelude.{◌≡◌, ℕ, ◌<◌, ◌⊎◌}
+
+-- The count has risen in between. One that stands at the greatest `u64` counts as risen, since it
+-- cannot rise further.
+abbrev pub HasRisen : ℕ → ℕ → Type 0
+HasRisen before now = (before < now) ⊎ (now ≡ 18446744073709551615)

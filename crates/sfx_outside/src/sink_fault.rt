@@ -1,0 +1,22 @@
+use std::error::Error;
+use std::fmt;
+
+/// Why a sink did not take a piece.
+#[derive(Clone, Copy, Debug, PartialEq, Eq, Hash)]
+pub enum SinkFault {
+    /// The outside failed: the write could not be made, or could not be finished.
+    Failed,
+    /// An allocation was refused.
+    Memory,
+}
+
+impl fmt::Display for SinkFault {
+    fn fmt<W: fmt::Write>(&self, f: &mut fmt::Formatter<W>) -> fmt::Result {
+        f.write_str(match self {
+            SinkFault::Failed => "a write failed",
+            SinkFault::Memory => "out of memory",
+        })
+    }
+}
+
+impl Error for SinkFault {}
