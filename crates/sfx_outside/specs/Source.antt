@@ -1,5 +1,5 @@
 -- What a source tells of the bytes that it has left.
-use Rattle.std.specs.Prelude.{◌≡◌, ℕ, List, [], ◌++◌, Option, IfSome}
+use Rattle.std.specs.Prelude.{◌≡◌, ℕ, ◌≤◌, List, [], ◌++◌, length, Option, IfSome}
 use Rattle.std.specs.Option.{option_map}
 
 -- These bytes were the front of what was left, and the rest is left now, where the source tells.
@@ -10,3 +10,7 @@ Takes old new bytes = old ≡ option_map (λ rest. bytes ++ rest) new
 -- Nothing is left, where the source tells.
 abbrev pub IsAtEnd : Option (List ℕ) → Type 0
 IsAtEnd left = IfSome left (λ rest. rest ≡ [])
+
+-- At most this many bytes have been taken from the front of what was left, perhaps none.
+abbrev pub TakesAtMost : ℕ → Option (List ℕ) → Option (List ℕ) → Type 0
+TakesAtMost most old new = (bytes : List ℕ) × (length bytes ≤ most) × Takes old new bytes

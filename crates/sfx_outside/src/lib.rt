@@ -2,11 +2,17 @@
 #![tactic(auto)]
 
 pub use failed::Failed;
+pub use read_fault::ReadFault;
+pub use reading::read_to_end;
 pub use sink::Sink;
 pub use sink_fault::SinkFault;
 pub use source::Source;
+pub use writing::write_all;
 
 mod failed;
+mod read_fault;
+mod reading;
 mod sink;
 mod sink_fault;
 mod source;
+mod writing;
