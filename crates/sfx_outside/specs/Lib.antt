@@ -1,3 +1,5 @@
 pub mod Fault
 pub mod Source
 pub mod Sink
+pub mod MemorySource
+pub mod MemorySink

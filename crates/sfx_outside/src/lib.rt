@@ -2,6 +2,8 @@
 #![tactic(auto)]
 
 pub use failed::Failed;
+pub use memory_sink::MemorySink;
+pub use memory_source::MemorySource;
 pub use read_fault::ReadFault;
 pub use reading::read_to_end;
 pub use sink::Sink;
@@ -9,7 +11,10 @@ pub use sink_fault::SinkFault;
 pub use source::Source;
 pub use writing::write_all;
 
+mod calls;
 mod failed;
+mod memory_sink;
+mod memory_source;
 mod read_fault;
 mod reading;
 mod sink;

@@ -1,3 +1,7 @@
+ghost use Rattle.std.specs.Prelude.{◌≡◌};
+ghost use Rattle.sfx_outside.specs.declared.sink_fault.SinkFault.TheVariants.{Memory as OutOfMemory};
+
+use std::alloc::AllocError;
 use std::error::Error;
 use std::fmt;
 
@@ -20,3 +24,11 @@ impl fmt::Display for SinkFault {
 }
 
 impl Error for SinkFault {}
+
+impl From<AllocError> for SinkFault {
+    ghost from_gives = { λ _ fault. fault ≡ OutOfMemory };
+
+    fn from(_error: AllocError) -> Self {
+        SinkFault::Memory
+    }
+}
