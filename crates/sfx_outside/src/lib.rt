@@ -9,6 +9,8 @@ pub use reading::read_to_end;
 pub use sink::Sink;
 pub use sink_fault::SinkFault;
 pub use source::Source;
+pub use std_sink::StdSink;
+pub use std_source::StdSource;
 pub use writing::write_all;
 
 mod calls;
@@ -20,4 +22,8 @@ mod reading;
 mod sink;
 mod sink_fault;
 mod source;
+mod std_sink;
+mod std_source;
+#[cfg(test)]
+mod tests;
 mod writing;

@@ -6,7 +6,7 @@ use crate::{ReadFault, Source};
 use std::alloc::Global;
 
 /// How many bytes are asked for at once.
-const PIECE: usize = 8192;
+const PIECE: usize = 65536;
 
 /// Reads all that the source has left, at most `limit` bytes. It takes at least one byte a turn and
 /// stops after `limit + 1` bytes.
