@@ -29,9 +29,11 @@ pub fn read_to_end<A: Source>(
     ensures faults { A.faults input.old ≤ A.faults input.new }
     ensures cause { IsErrOf result ReadFault.Failed → HasRisen (A.faults input.old) (A.faults input.new) }
 
-    // Where no read fails and few enough bytes are left, only memory can be wanting.
-    ensures complete { ¬ HasRisen (A.faults input.old) (A.faults input.new) →
+    // Where no read fails the length decides, but for want of memory.
+    ensures short { ¬ HasRisen (A.faults input.old) (A.faults input.new) →
         IfSome (A.left input.old) (λ all. length all ≤ limit → IsOk result ⊎ IsErrOf result ReadFault.Memory) }
+    ensures long { ¬ HasRisen (A.faults input.old) (A.faults input.new) →
+        IfSome (A.left input.old) (λ all. limit < length all → IsErrOf result ReadFault.TooLong ⊎ IsErrOf result ReadFault.Memory) }
 {
     let mut buffer = [0; PIECE];
     let mut bytes = Vec::new(alloc);

@@ -21,7 +21,7 @@ pub trait Sink {
     /// piece may have been taken, perhaps nothing.
     fn write(&mut self, piece: &[u8]) -> Result<usize, SinkFault>
         ensures count { IfOk result (λ n. n ≤ length piece.now) }
-        ensures some { IfOk result (λ n. 0 < length piece.now → 0 < n) }
+        ensures progress { IfOk result (λ n. 0 < length piece.now → 0 < n) }
         ensures added { IfOk result (λ n. Adds (held self.old) (held self.new) (take n piece.now)) }
         ensures err { OnErr result (AddsFront (held self.old) (held self.new) piece.now) }
         ensures faults { faults self.old ≤ faults self.new }

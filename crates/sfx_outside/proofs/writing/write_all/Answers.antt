@@ -15,7 +15,6 @@ returns-in_err-done-clause-err g c =
     (held c.write.new.self)
     c.args.piece.now
     c.loop-done.done
-    c.loop-done.invariant.within
     c.loop-done.invariant.added
     (rw take_rest at c.in_err-done.ensures.err))
 
