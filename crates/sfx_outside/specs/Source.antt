@@ -14,3 +14,7 @@ IsAtEnd left = IfSome left (λ rest. rest ≡ [])
 -- At most this many bytes have been taken from the front of what was left, perhaps none.
 abbrev pub TakesAtMost : ℕ → Option (List ℕ) → Option (List ℕ) → Type 0
 TakesAtMost most old new = (bytes : List ℕ) × (length bytes ≤ most) × Takes old new bytes
+
+-- This many bytes have been taken from the front of what was left.
+abbrev pub TakesExactly : ℕ → Option (List ℕ) → Option (List ℕ) → Type 0
+TakesExactly count old new = (bytes : List ℕ) × (length bytes ≡ count) × Takes old new bytes

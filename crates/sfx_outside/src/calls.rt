@@ -2,7 +2,7 @@ ghost use Rattle.std.specs.Prelude.{◌≡◌, ◌<◌, ◌^◌, ◌↔◌, IsTr
 ghost use Rattle.sfx_outside.specs.Fault.{counted};
 
 /// How many calls were made of a source or a sink in memory, which of them fail, and how many did.
-#[derive(Drop)]
+#[derive(Debug, Drop)]
 pub(crate) struct Calls {
     pub fails: Vec<u64>,
     pub made: u64,

@@ -1,6 +1,6 @@
 ghost use Rattle.std.specs.Prelude.{◌≡◌, ◌+◌, ◌<◌, ◌≤◌, ◌⊎◌, length, vec_len, IfSome, IfOk, OnOk, IsOk, IsErrOf};
 ghost use Rattle.sfx_outside.specs.Fault.{HasRisen};
-ghost use Rattle.sfx_outside.specs.Source.{IsAtEnd, TakesAtMost};
+ghost use Rattle.sfx_outside.specs.Source.{IsAtEnd, TakesAtMost, TakesExactly};
 
 use crate::{ReadFault, Source};
 use std::alloc::Global;
@@ -24,6 +24,7 @@ pub fn read_to_end<A: Source>(
     ensures fits { IfOk result (λ bytes. vec_len bytes ≤ limit) }
 
     ensures too_long { IsErrOf result ReadFault.TooLong → IfSome (A.left input.old) (λ all. limit < length all) }
+    ensures stopped { IsErrOf result ReadFault.TooLong → TakesExactly (limit + 1) (A.left input.old) (A.left input.new) }
     ensures taken { TakesAtMost (limit + 1) (A.left input.old) (A.left input.new) }
 
     ensures faults { A.faults input.old ≤ A.faults input.new }

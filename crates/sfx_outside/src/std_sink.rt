@@ -9,7 +9,7 @@ use std::marker::Model;
 /// and one flush of the writer, and one that a signal cuts short is made again. A failed flush is a
 /// fault, and so is a write that takes nothing of a piece. It tells nothing of the bytes that it
 /// holds.
-#[derive(Drop)]
+#[derive(Debug, Drop)]
 pub struct StdSink<W> {
     writer: W,
     faults: u64,
@@ -24,7 +24,7 @@ impl<W> Model for StdSink<W> {
 }
 
 impl<W> StdSink<W> {
-    /// A sink into the writer; no write has failed yet.
+    /// A sink into the writer; no write has failed yet. `main` makes one.
     pub fn new(writer: W) -> Self
         ensures { result ≡ 0 }
     {

@@ -11,7 +11,7 @@ const PIECE: usize = 65536;
 /// Standard input as a source, or another reader: `StdSource::new(rt.stdin())`. Each call is one read
 /// of the reader, of at most 64 KiB, and one that a signal cuts short is made again. It tells nothing
 /// of the bytes that it has left.
-#[derive(Drop)]
+#[derive(Debug, Drop)]
 pub struct StdSource<R> {
     reader: R,
     faults: u64,
@@ -26,7 +26,7 @@ impl<R> Model for StdSource<R> {
 }
 
 impl<R> StdSource<R> {
-    /// A source of what the reader gives; no read has failed yet.
+    /// A source of what the reader gives; no read has failed yet. `main` makes one.
     pub fn new(reader: R) -> Self
         ensures { result ≡ 0 }
     {

@@ -4,7 +4,7 @@ use std::test::Fail;
 
 const TEXT: &[u8] = b"create";
 
-/// The number of bytes, or the fault; the bytes have to be the text from this place on.
+/// How many bytes are read, or the fault; 0 where they are not the text from this place on.
 fn count_read<A: Source>(
     alloc: Global,
     input: &mut A,
