@@ -1,4 +1,7 @@
-ghost use Rattle.std.specs.Prelude.{◌≡◌, ◌≤◌, IfOk, length};
+ghost use Rattle.std.specs.Prelude.{◌≡◌, ◌<◌, ◌≤◌, ◌^◌, IfOk, OnErr, is_ok, length, take, IsErrOf, if◌then◌else◌};
+ghost use Rattle.std.specs.Io.KnownBytes.{Appends, WriteAppends};
+ghost use Rattle.sfx_outside.specs.Fault.{counted};
+ghost use Rattle.sfx_outside.specs.StdSink.{AppendsFront};
 
 use crate::{Sink, SinkFault};
 use std::io;
@@ -7,26 +10,29 @@ use std::marker::Model;
 
 /// Standard output as a sink, or another writer: `StdSink::new(rt.stdout())`. Each call is one write
 /// and one flush of the writer, and one that a signal cuts short is made again. A failed flush is a
-/// fault, and so is a write that takes nothing of a piece. It tells nothing of the bytes that it
-/// holds.
+/// fault, and so is a write that takes nothing of a piece. As a sink it tells nothing of the bytes
+/// that it holds; that they go to its writer is a clause of `write`.
 #[derive(Debug, Drop)]
-pub struct StdSink<W> {
+pub struct StdSink<W: Write> {
     writer: W,
     faults: u64,
 }
 
-impl<W> Model for StdSink<W> {
-    ghost use Rattle.std.specs.Prelude.{ℕ};
+impl<W: Write> Model for StdSink<W> {
+    ghost use Rattle.std.specs.Prelude.{◌<◌, ◌^◌};
+    ghost use Rattle.sfx_outside.specs.StdSink.{WriterState};
 
-    ghost Value = { ℕ };
+    ghost Value = { WriterState };
 
-    ghost view = { λ s. s.faults };
+    ghost view = { λ s. record { known = W.contents s.writer; faults = s.faults } };
+
+    ghost invariant = { λ s. s.faults < 2 ^ 64 };
 }
 
-impl<W> StdSink<W> {
+impl<W: Write> StdSink<W> {
     /// A sink into the writer; no write has failed yet. `main` makes one.
     pub fn new(writer: W) -> Self
-        ensures { result ≡ 0 }
+        ensures { result ≡ record { known = W.contents writer; faults = 0 } }
     {
         StdSink { writer, faults: 0 }
     }
@@ -37,9 +43,17 @@ impl<W: Write> Sink for StdSink<W> {
 
     ghost held = { λ _. None };
 
-    ghost faults = { λ s. s };
+    ghost faults = { λ s. s.faults };
 
-    fn write(&mut self, piece: &[u8]) -> Result<usize, SinkFault> {
+    fn write(&mut self, piece: &[u8]) -> Result<usize, SinkFault>
+        ensures count { IfOk result (λ n. n ≤ length piece.now) }
+        ensures progress { IfOk result (λ n. 0 < length piece.now → 0 < n) }
+        ensures writer { IfOk result (λ n. Appends self.old.known self.new.known (take n piece.now)) }
+        ensures err { OnErr result (AppendsFront self.old.known self.new.known piece.now) }
+        ensures failed { OnErr result (IsErrOf result SinkFault.Failed) }
+        ensures fits { self.old.faults < 2 ^ 64 }
+        ensures faults { self.new.faults ≡ (if is_ok result then self.old.faults else counted self.old.faults) }
+    {
         match write_through(&mut self.writer, piece) {
             Ok(count) if count > 0 || piece.is_empty() => Ok(count),
             _ => {
@@ -52,7 +66,9 @@ impl<W: Write> Sink for StdSink<W> {
 
 /// Writes a front of the piece and flushes.
 fn write_through<W: Write>(writer: &mut W, piece: &[u8]) -> io::Result<usize>
-    ensures { IfOk result (λ n. n ≤ length piece.now) }
+    ensures count { IfOk result (λ n. n ≤ length piece.now) }
+    ensures ok { IfOk result (λ n. Appends (W.contents writer.old) (W.contents writer.new) (take n piece.now)) }
+    ensures err { OnErr result (AppendsFront (W.contents writer.old) (W.contents writer.new) piece.now) }
 {
     let count = write_some(writer, piece)?;
     writer.flush()?;
@@ -61,9 +77,10 @@ fn write_through<W: Write>(writer: &mut W, piece: &[u8]) -> io::Result<usize>
 
 /// Writes once, and again where a signal came first.
 fn write_some<W: Write>(writer: &mut W, piece: &[u8]) -> io::Result<usize>
-    ensures { IfOk result (λ n. n ≤ length piece.now) }
+    ensures count { IfOk result (λ n. n ≤ length piece.now) }
+    ensures bytes { WriteAppends (W.contents writer.old) (W.contents writer.new) result piece.now }
 {
-    for _ in 0..u64::MAX {
+    'tries: for _ in 0..u64::MAX {
         match writer.write(piece) {
             Err(error) if error.kind() == ErrorKind::Interrupted => {}
             result => return result,

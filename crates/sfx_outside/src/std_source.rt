@@ -1,4 +1,6 @@
-ghost use Rattle.std.specs.Prelude.{◌≡◌, ◌≤◌, IfOk, length};
+ghost use Rattle.std.specs.Prelude.{◌≡◌, ◌<◌, ◌≤◌, ◌^◌, IfOk, is_ok, length, drop, if◌then◌else◌};
+ghost use Rattle.std.specs.Io.KnownBytes.{ReadConsumes};
+ghost use Rattle.sfx_outside.specs.Fault.{counted};
 
 use crate::{Failed, Source};
 use std::io;
@@ -9,26 +11,29 @@ use std::marker::Model;
 const PIECE: usize = 65536;
 
 /// Standard input as a source, or another reader: `StdSource::new(rt.stdin())`. Each call is one read
-/// of the reader, of at most 64 KiB, and one that a signal cuts short is made again. It tells nothing
-/// of the bytes that it has left.
+/// of the reader, of at most 64 KiB, and one that a signal cuts short is made again. As a source it
+/// tells nothing of the bytes that it has left; that they are its reader's is a clause of `read`.
 #[derive(Debug, Drop)]
-pub struct StdSource<R> {
+pub struct StdSource<R: Read> {
     reader: R,
     faults: u64,
 }
 
-impl<R> Model for StdSource<R> {
-    ghost use Rattle.std.specs.Prelude.{ℕ};
+impl<R: Read> Model for StdSource<R> {
+    ghost use Rattle.std.specs.Prelude.{◌<◌, ◌^◌};
+    ghost use Rattle.sfx_outside.specs.StdSource.{ReaderState};
 
-    ghost Value = { ℕ };
+    ghost Value = { ReaderState };
 
-    ghost view = { λ s. s.faults };
+    ghost view = { λ s. record { known = R.remaining s.reader; faults = s.faults } };
+
+    ghost invariant = { λ s. s.faults < 2 ^ 64 };
 }
 
-impl<R> StdSource<R> {
+impl<R: Read> StdSource<R> {
     /// A source of what the reader gives; no read has failed yet. `main` makes one.
     pub fn new(reader: R) -> Self
-        ensures { result ≡ 0 }
+        ensures { result ≡ record { known = R.remaining reader; faults = 0 } }
     {
         StdSource { reader, faults: 0 }
     }
@@ -39,9 +44,15 @@ impl<R: Read> Source for StdSource<R> {
 
     ghost left = { λ _. None };
 
-    ghost faults = { λ s. s };
+    ghost faults = { λ s. s.faults };
 
-    fn read(&mut self, into: &mut [u8]) -> Result<usize, Failed> {
+    fn read(&mut self, into: &mut [u8]) -> Result<usize, Failed>
+        ensures count { IfOk result (λ n. n ≤ length into.old) }
+        ensures reader { ReadConsumes self.old.known self.new.known result into.new }
+        ensures rest { IfOk result (λ n. drop n into.new ≡ drop n into.old) }
+        ensures fits { self.old.faults < 2 ^ 64 }
+        ensures faults { self.new.faults ≡ (if is_ok result then self.old.faults else counted self.old.faults) }
+    {
         let mut piece = [0; PIECE];
         let room = into.len().min(PIECE);
         match read_some(&mut self.reader, &mut piece[..room]) {
@@ -59,9 +70,10 @@ impl<R: Read> Source for StdSource<R> {
 
 /// Reads once, and again where a signal came first.
 fn read_some<R: Read>(reader: &mut R, into: &mut [u8]) -> io::Result<usize>
-    ensures { IfOk result (λ n. n ≤ length into.old) }
+    ensures count { IfOk result (λ n. n ≤ length into.old) }
+    ensures bytes { ReadConsumes (R.remaining reader.old) (R.remaining reader.new) result into.new }
 {
-    for _ in 0..u64::MAX {
+    'tries: for _ in 0..u64::MAX {
         match reader.read(into) {
             Err(error) if error.kind() == ErrorKind::Interrupted => {}
             result => return result,
