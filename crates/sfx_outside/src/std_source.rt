@@ -1,0 +1,123 @@
+ghost use Rattle.std.specs.Prelude.{◌≡◌, ◌<◌, ◌≤◌, ◌^◌, IfOk, is_ok, length, drop, if◌then◌else◌};
+ghost use Rattle.std.specs.Io.KnownBytes.{ReadConsumes};
+ghost use Rattle.sfx_outside.specs.Fault.{counted};
+
+use crate::{Failed, Source};
+use std::io;
+use std::io::{ErrorKind, Read};
+use std::marker::Model;
+
+/// How many bytes are read at once.
+const PIECE: usize = 65536;
+
+/// Standard input as a source, or another reader: `StdSource::new(rt.stdin())`. Each call is one read
+/// of the reader, of at most 64 KiB, and one that a signal cuts short is made again. As a source it
+/// tells nothing of the bytes that it has left; that they are its reader's is a clause of `read`.
+#[derive(Debug, Drop)]
+pub struct StdSource<R: Read> {
+    reader: R,
+    faults: u64,
+}
+
+impl<R: Read> Model for StdSource<R> {
+    ghost use Rattle.std.specs.Prelude.{◌<◌, ◌^◌};
+    ghost use Rattle.sfx_outside.specs.StdSource.{ReaderState};
+
+    ghost Value = { ReaderState };
+
+    ghost view = { λ s. record { known = R.remaining s.reader; faults = s.faults } };
+
+    ghost invariant = { λ s. s.faults < 2 ^ 64 };
+}
+
+impl<R: Read> StdSource<R> {
+    /// A source of what the reader gives; no read has failed yet. `main` makes one.
+    pub fn new(reader: R) -> Self
+        ensures { result ≡ record { known = R.remaining reader; faults = 0 } }
+    {
+        StdSource { reader, faults: 0 }
+    }
+}
+
+impl<R: Read> Source for StdSource<R> {
+    ghost use Rattle.std.specs.Prelude.{None};
+
+    ghost left = { λ _. None };
+
+    ghost faults = { λ s. s.faults };
+
+    fn read(&mut self, into: &mut [u8]) -> Result<usize, Failed>
+        ensures count { IfOk result (λ n. n ≤ length into.old) }
+        ensures reader { ReadConsumes self.old.known self.new.known result into.new }
+        ensures rest { IfOk result (λ n. drop n into.new ≡ drop n into.old) }
+        ensures fits { self.old.faults < 2 ^ 64 }
+        ensures faults { self.new.faults ≡ (if is_ok result then self.old.faults else counted self.old.faults) }
+    {
+        let mut piece = [0; PIECE];
+        let room = into.len().min(PIECE);
+        match read_some(&mut self.reader, &mut piece[..room]) {
+            Ok(count) => {
+                into[..count].copy_from_slice(&piece[..count]);
+                Ok(count)
+            }
+            Err(_) => {
+                self.faults = self.faults.saturating_add(1);
+                Err(Failed)
+            }
+        }
+    }
+}
+
+/// Reads once, and again where a signal came first.
+fn read_some<R: Read>(reader: &mut R, into: &mut [u8]) -> io::Result<usize>
+    ensures count { IfOk result (λ n. n ≤ length into.old) }
+    ensures bytes { ReadConsumes (R.remaining reader.old) (R.remaining reader.new) result into.new }
+{
+    'tries: for _ in 0..u64::MAX {
+        match reader.read(into) {
+            Err(error) if error.kind() == ErrorKind::Interrupted => {}
+            result => return result,
+        }
+    }
+    Err(ErrorKind::Interrupted.into())
+}
+
+#[cfg(test)]
+mod tests {
+    use super::*;
+    use crate::{ReadFault, read_to_end};
+    use std::test::Fail;
+
+    /// Gives a byte a call, but a signal comes before the first and the third call fails.
+    #[derive(Drop)]
+    struct Flaky {
+        calls: u8,
+    }
+
+    impl Read for Flaky {
+        fn read(&mut self, buf: &mut [u8]) -> io::Result<usize> {
+            self.calls = self.calls.saturating_add(1);
+            match (self.calls, buf) {
+                (1, _) => Err(ErrorKind::Interrupted.into()),
+                (3, _) => Err(ErrorKind::Other.into()),
+                (2 | 4, [first, ..]) => {
+                    *first = self.calls;
+                    Ok(1)
+                }
+                _ => Ok(0),
+            }
+        }
+    }
+
+    #[test]
+    fn counts_a_failed_read(rt: HostRuntime) -> Result<(), Fail> {
+        let mut input = StdSource::new(Flaky { calls: 0 });
+        let failed = read_to_end(rt.alloc(), &mut input, 9).err();
+        assert_eq!(rt; failed, Some(ReadFault::Failed));
+        assert_eq!(rt; input.faults, 1);
+        let bytes = read_to_end(rt.alloc(), &mut input, 9)?;
+        assert_eq!(rt; bytes.as_slice(), [4].as_slice());
+        assert_eq!(rt; input.faults, 1);
+        Ok(())
+    }
+}
