@@ -1,3 +1,4 @@
+ghost use Rattle.std.specs.Option.{option_copied};
 ghost use Rattle.std.specs.Prelude.{◌≡◌, ℕ, ◌<◌, ◌↔◌, List, length, vec_len, slice_get, slice_set, IsSome, IfSome, IfOk};
 
 use crate::Cell;
@@ -41,6 +42,21 @@ impl<const U: usize> Row<U> {
         ensures whole { length self.now ≡ U }
     {
         &self.cells[unit.get()]
+    }
+
+    /// The cells of all units, in order.
+    pub fn cells(&self) -> &[Cell]
+        ensures value { result.now ≡ self.now }
+        ensures whole { length self.now ≡ U }
+    {
+        self.cells.as_slice()
+    }
+
+    /// The cell of unit 0, which there is unless the row has no units.
+    pub fn first(&self) -> Option<&Cell>
+        ensures { option_copied result ≡ slice_get self.now 0 }
+    {
+        self.cells.first()
     }
 
     /// Puts a cell in the place of a unit's, and leaves the other units as they are.
