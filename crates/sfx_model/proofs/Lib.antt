@@ -1,1 +1,4 @@
 pub mod Words
+pub mod Order
+pub mod Rising
+pub mod Headline

@@ -1,3 +1,7 @@
 //! The model of a community of replicas: the world, its events, what it means that a replica's state
 //! represents its part of a world, and the laws of these.
 #![tactic(auto)]
+
+pub use members::knowledge_is_exact;
+
+mod members;
