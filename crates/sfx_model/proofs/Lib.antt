@@ -1,4 +1,6 @@
 pub mod Words
+pub mod Sets
+pub mod Frame
 pub mod Order
 pub mod Rising
 pub mod Headline
