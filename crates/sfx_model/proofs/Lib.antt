@@ -4,3 +4,4 @@ pub mod Frame
 pub mod Order
 pub mod Rising
 pub mod Headline
+pub mod Sites
