@@ -5,3 +5,4 @@ pub mod Order
 pub mod Rising
 pub mod Headline
 pub mod Sites
+pub mod Standing
