@@ -6,3 +6,5 @@ pub mod Rising
 pub mod Headline
 pub mod Sites
 pub mod Standing
+pub mod Recording
+pub mod Steps
