@@ -8,3 +8,4 @@ pub mod Sites
 pub mod Standing
 pub mod Recording
 pub mod Steps
+pub mod Making
