@@ -5,7 +5,10 @@ pub mod Order
 pub mod Rising
 pub mod Headline
 pub mod Sites
-pub mod Standing
 pub mod Recording
 pub mod Steps
 pub mod Making
+pub mod Standing
+pub mod Overlay
+pub mod Edits
+pub mod Cleanup

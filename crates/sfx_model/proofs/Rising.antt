@@ -1,11 +1,12 @@
 -- Lists of items that rise by id, with equal look-ups, are equal lists.
-use Rattle.std.proofs.Common.{◌≡◌, ◌≢◌, ℕ, ◌⊎◌, Bool, List, [], ◌∷◌, Option, Some, None, true, false, nat_eq, inl, inr, refl, sym, ◌∙◌, ap, subst, arith}
-use Rattle.std.proofs.lemmas.Bool.{cases_order, and_parts, eqb-true, eq-eqb, and_from, false_from_ne_true}
+use Rattle.std.proofs.Common.{◌≡◌, ◌≢◌, ℕ, ◌⊎◌, Bool, List, [], ◌∷◌, Option, Some, None, true, false, inl, inr, refl, sym, ◌∙◌, ap, subst, arith}
+use Rattle.std.proofs.lemmas.Bool.{cases_order, false_from_ne_true}
 use Rattle.sfx_ids.specs.declared.item_id.ItemId.{ItemId}
 use Rattle.sfx_model.specs.Sets.{Has}
 use Rattle.sfx_model.specs.Events.{same_item}
 use Rattle.sfx_model.specs.Members.{MemberItem, ItemState, Live, Dead, AreRising, IsIdBelow, state_of}
 use Rattle.sfx_item.specs.declared.cell.Cell.{Cell}
+use Rattle.sfx_model.proofs.Steps.{same_item_is, same_item_self}
 use Rattle.sfx_model.specs.Headline.{live_item, live_items}
 
 abbrev id_with : ℕ → ℕ → ItemId
@@ -15,15 +16,7 @@ id_with tick replica = record { tick = tick; replica = replica }
 pub ids_are : (a b : ItemId) → a.tick ≡ b.tick → a.replica ≡ b.replica → a ≡ b
 ids_are a b p q = let e : id_with a.tick a.replica ≡ id_with b.tick b.replica = rw (p, q) refl in e
 
--- The test of ids finds equal ids alone
-pub same_item_is : (a b : ItemId) → same_item a b ≡ true → a ≡ b
-same_item_is a b same =
-    let parts = and_parts (nat_eq a.tick b.tick) (nat_eq a.replica b.replica) same in
-    ids_are a b (eqb-true a.tick b.tick parts.0) (eqb-true a.replica b.replica parts.1)
-
-pub same_item_self : (a : ItemId) → same_item a a ≡ true
-same_item_self a = and_from (nat_eq a.tick a.tick) (nat_eq a.replica a.replica) (eq-eqb a.tick a.tick refl) (eq-eqb a.replica a.replica refl)
-
+-- The test of ids fails on different ids.
 pub other_item : (a b : ItemId) → a ≢ b → same_item a b ≡ false
 other_item a b ne = false_from_ne_true (same_item a b) (λ same. ne (same_item_is a b same))
 
