@@ -12,3 +12,4 @@ pub mod Standing
 pub mod Overlay
 pub mod Edits
 pub mod Cleanup
+pub mod Learning
