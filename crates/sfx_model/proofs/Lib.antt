@@ -13,3 +13,4 @@ pub mod Overlay
 pub mod Edits
 pub mod Cleanup
 pub mod Learning
+pub mod Marks
