@@ -14,3 +14,4 @@ pub mod Edits
 pub mod Cleanup
 pub mod Learning
 pub mod Marks
+pub mod Entering
