@@ -48,7 +48,7 @@ stamped_mark None c e = absurd (cc)
 stamped_mark (Some d) c e = let same : d ≡ c = cc in cc
 
 -- The cell of a live item, as it was before.
-held_cell : (w : World) (s : Site) (i : ItemId) (o : Option ItemState) (u : ℕ) (d : Cell) → ItemRepresents w.units w.records i (holding s i) o → cell_at o u ≡ Some d → IsLatestCell w.records i u (s.known i u) d
+pub held_cell : (w : World) (s : Site) (i : ItemId) (o : Option ItemState) (u : ℕ) (d : Cell) → ItemRepresents w.units w.records i (holding s i) o → cell_at o u ≡ Some d → IsLatestCell w.records i u (s.known i u) d
 held_cell w s i None u d held is = absurd (cc)
 held_cell w s i (Some (Live cells)) u d held is = held.latest.each u d is
 held_cell w s i (Some (Dead v)) u d held is = absurd (cc)

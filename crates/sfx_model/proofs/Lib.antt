@@ -15,3 +15,7 @@ pub mod Cleanup
 pub mod Learning
 pub mod Marks
 pub mod Entering
+pub mod Joined
+pub mod Replicas
+pub mod Ranges
+pub mod Entries

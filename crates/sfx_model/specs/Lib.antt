@@ -4,3 +4,4 @@ pub mod Events
 pub mod Members
 pub mod Headline
 pub mod Results
+pub mod Replica

@@ -2,6 +2,6 @@
 //! represents its part of a world, and the laws of these.
 #![tactic(auto)]
 
-pub use members::knowledge_is_exact;
+pub use members::{knowledge_is_exact, members_stand};
 
 mod members;

@@ -1,7 +1,14 @@
+ghost use Rattle.std.specs.Prelude.{Bool, List, Option, ℕ};
+ghost use Rattle.sfx_ids.specs.declared.cut.Cut.{Cut};
+ghost use Rattle.sfx_ids.specs.declared.item_id.ItemId.{ItemId};
+ghost use Rattle.sfx_ids.specs.declared.version.Version.{Version};
+ghost use Rattle.sfx_model.specs.Events.{Apply, Clean, Event, Forget, Join, Learn, Legal, Make, UnitMark, after};
 ghost use Rattle.sfx_model.specs.Headline.{DeletionsAreRespected, EqualKnowledgeMeansEqualItems, FactsHold, KnowledgeIsExact};
-ghost use Rattle.sfx_model.specs.Members.{AreRising, Community, Represents, RepresentsWorld, Shown};
+ghost use Rattle.sfx_model.specs.Members.{AreRising, Community, ItemRepresents, ItemState, Represents, RepresentsWorld, Shown};
+ghost use Rattle.sfx_model.specs.Replica.{IsNewMember, IsOfOthers, RepresentsReplica};
+ghost use Rattle.sfx_model.specs.Results.{Backs, BacksForgotten, BacksRange, CleanResult, EditResult, EntryResult, ForgetResult, LearnResult};
 ghost use Rattle.sfx_model.specs.Sets.{Has};
-ghost use Rattle.sfx_model.specs.World.{Site, WellFormed, World};
+ghost use Rattle.sfx_model.specs.World.{Content, Site, Snapshot, WellFormed, World, holding};
 
 /// The three facts, as a law of every well-formed world, for any number of replicas and units, and of
 /// every state that represents a site of it. Calling this does nothing.
@@ -20,4 +27,45 @@ pub fn knowledge_is_exact()
         WellFormed w → Has s w.sites → Represents w s m → DeletionsAreRespected w m }
     ensures community { (w : World) (c : Community) →
         WellFormed w → RepresentsWorld w c → FactsHold w c }
+{}
+
+/// What each event does to the states that represent replicas of a well-formed world, as a law. It does
+/// nothing when called.
+///
+/// `others`: an event leaves the states of the other replicas representing them. `joined`: the empty
+/// state of a replica that joins represents it. The other clauses are of the replica that acts: its
+/// state represents it afterwards where it changed as the clause's result says, by a creation, edit or
+/// deletion (`edit`), a cleanup (`cleaned`), forgotten deletions joined (`forgot`), an applied entry
+/// (`entry`) or a learned range (`range`). `seen`, `made_with` and `forgotten` are what comes with a
+/// snapshot: its state of the item, its knowledge and its forgotten deletions.
+pub fn members_stand()
+    ensures others { (w : World) (event : Event) (r : ℕ) (m : Shown) →
+        WellFormed w → Legal w event → IsOfOthers event r →
+        RepresentsReplica w r m → RepresentsReplica (after w event) r m }
+    ensures joined { (w : World) (name : List ℕ) (id : ℕ) (m : Shown) →
+        WellFormed w → Legal w (Join name id) → IsNewMember id m →
+        RepresentsReplica (after w (Join name id)) id m }
+    ensures edit { (w : World) (r : ℕ) (i : ItemId) (v : Version) (contents : ℕ → Option Content) (m n : Shown) →
+        WellFormed w → Legal w (Make r i v contents) → RepresentsReplica w r m →
+        EditResult w.units i v contents m n →
+        RepresentsReplica (after w (Make r i v contents)) r n }
+    ensures cleaned { (w : World) (r : ℕ) (i : ItemId) (v : Version) (lo hi : Cut) (m n : Shown) →
+        WellFormed w → Legal w (Clean r i v lo hi) → RepresentsReplica w r m →
+        CleanResult i v lo hi m n →
+        RepresentsReplica (after w (Clean r i v lo hi)) r n }
+    ensures forgot { (w : World) (r : ℕ) (s : Snapshot) (forgotten : Cut → ℕ → ℕ) (lo hi : Cut) (m n : Shown) →
+        WellFormed w → Legal w (Forget r s lo hi) → RepresentsReplica w r m →
+        BacksForgotten w s lo hi forgotten → ForgetResult forgotten lo hi m n →
+        RepresentsReplica (after w (Forget r s lo hi)) r n }
+    ensures entry { (w : World) (r : ℕ) (s : Snapshot) (i : ItemId) (v : Version) (marks : ℕ → UnitMark)
+        (seen : Option ItemState) (made_with : Cut → ℕ → ℕ → ℕ) (m n : Shown) →
+        WellFormed w → Legal w (Apply r s i v marks) → RepresentsReplica w r m →
+        Backs w s i made_with → ItemRepresents w.units w.records i (holding s i) seen →
+        EntryResult w.units i v marks seen made_with m n →
+        RepresentsReplica (after w (Apply r s i v marks)) r n }
+    ensures range { (w : World) (r : ℕ) (s : Snapshot) (lo hi : Cut) (left : ItemId → ℕ → Bool)
+        (made_with : Cut → ℕ → ℕ → ℕ) (m n : Shown) →
+        WellFormed w → Legal w (Learn r s lo hi left) → RepresentsReplica w r m →
+        BacksRange w s lo hi made_with → LearnResult lo hi left made_with m n →
+        RepresentsReplica (after w (Learn r s lo hi left)) r n }
 {}
