@@ -19,3 +19,7 @@ pub mod Joined
 pub mod Replicas
 pub mod Ranges
 pub mod Entries
+pub mod Copying
+pub mod Widening
+pub mod Shapes
+pub mod Keeping

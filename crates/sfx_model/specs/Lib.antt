@@ -5,3 +5,4 @@ pub mod Members
 pub mod Headline
 pub mod Results
 pub mod Replica
+pub mod Agreement
