@@ -23,3 +23,6 @@ pub mod Copying
 pub mod Widening
 pub mod Shapes
 pub mod Keeping
+pub mod Communities
+pub mod Turns
+pub mod Placing

@@ -65,13 +65,13 @@ pub joined_stands : (w : World) (name : List ℕ) (id : ℕ) (m : Shown) → Wel
 joined_stands w name id m ok legal new = (new_site name id, found_new w.sites (new_site name id) legal.new_id, join_new w name id m ok new)
 
 -- The site of a replica that acted is found again.
-own_found : (w : World) (r : ℕ) (old new : Site) → site_of w.sites r ≡ Some old → new.id ≡ old.id → site_of (put_site new w.sites) r ≡ Some new
+pub own_found : (w : World) (r : ℕ) (old new : Site) → site_of w.sites r ≡ Some old → new.id ≡ old.id → site_of (put_site new w.sites) r ≡ Some new
 own_found w r old new at same =
     let is : new.id ≡ r = same ∙ (found w.sites r old at).1 in
     subst (λ (x : ℕ). site_of (put_site new w.sites) x ≡ Some new) is (put_found w.sites new old (subst (λ (x : ℕ). site_of w.sites x ≡ Some old) (sym is) at))
 
 -- The site that is found is the one that the member represents.
-one_found : (w : World) (r : ℕ) (m : Shown) (t : Site) → site_of w.sites r ≡ Some t → RepresentsReplica w r m → Represents w t m
+pub one_found : (w : World) (r : ℕ) (m : Shown) (t : Site) → site_of w.sites r ≡ Some t → RepresentsReplica w r m → Represents w t m
 one_found w r m t at (s, at_s, rep) =
     let same : s ≡ t = let both : Some s ≡ Some t = sym at_s ∙ at in cc in
     subst (λ (x : Site). Represents w x m) same rep

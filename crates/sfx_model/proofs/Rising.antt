@@ -37,13 +37,13 @@ ids_compared a b =
       ]
     ]
 
-before_differs : (a b : ItemId) → IsIdBelow a b → a ≢ b
+pub before_differs : (a b : ItemId) → IsIdBelow a b → a ≢ b
 before_differs a b before same =
     let t : a.tick ≡ b.tick = ap (λ (x : ItemId). x.tick) same in
     let r : a.replica ≡ b.replica = ap (λ (x : ItemId). x.replica) same in
     elim before [ inl lt ↦ omega arith | inr (e, lt) ↦ omega arith ]
 
-before_trans : (a b c : ItemId) → IsIdBelow a b → IsIdBelow b c → IsIdBelow a c
+pub before_trans : (a b c : ItemId) → IsIdBelow a b → IsIdBelow b c → IsIdBelow a c
 before_trans a b c ab bc =
     elim ab [
       | inl lt ↦ elim bc [ inl lt' ↦ inl (omega arith) | inr (e, lt') ↦ inl (omega arith) ]
@@ -58,10 +58,10 @@ state_below (x ∷ xs) i below =
     rw off (state_below xs i (λ y has. below y (inr has)))
 
 -- The look-up at the head, and behind it
-state_here : (x : MemberItem) (xs : List MemberItem) → state_of (x ∷ xs) x.id ≡ Some x.state
+pub state_here : (x : MemberItem) (xs : List MemberItem) → state_of (x ∷ xs) x.id ≡ Some x.state
 state_here x xs = rw (same_item_self x.id) refl
 
-state_behind : (x : MemberItem) (xs : List MemberItem) (i : ItemId) → x.id ≢ i → state_of (x ∷ xs) i ≡ state_of xs i
+pub state_behind : (x : MemberItem) (xs : List MemberItem) (i : ItemId) → x.id ≢ i → state_of (x ∷ xs) i ≡ state_of xs i
 state_behind x xs i ne = rw (other_item x.id i ne) refl
 
 -- Rising lists behind equal heads look up alike

@@ -6,3 +6,4 @@ pub mod Headline
 pub mod Results
 pub mod Replica
 pub mod Agreement
+pub mod States
