@@ -26,3 +26,6 @@ pub mod Keeping
 pub mod Communities
 pub mod Turns
 pub mod Placing
+pub mod Refusals
+pub mod Accepted
+pub mod Run

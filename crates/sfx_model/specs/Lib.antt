@@ -7,3 +7,4 @@ pub mod Results
 pub mod Replica
 pub mod Agreement
 pub mod States
+pub mod Examples

@@ -167,3 +167,7 @@ pub record WellFormed (w : World) : Type 0 where
   pub records : (r : Record) → Has r w.records → IsOfWorld w r
   pub sound : (s : Site) → Has s w.sites → IsSound w s
   pub own : (r : Record) (s : Site) → Has r w.records → Has s w.sites → s.id ≡ r.version.replica → Has r.version (s.known r.item r.unit)
+
+-- The world before anything happened: no units, no records, no replicas.
+abbrev pub empty_world : World
+empty_world = record { units = 0; records = []; sites = [] }

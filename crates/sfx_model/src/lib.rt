@@ -5,3 +5,6 @@
 pub use members::{knowledge_is_exact, members_stand};
 
 mod members;
+pub use world::{events_keep, examples, marks_agree, short_run};
+
+mod world;

@@ -1,0 +1,21 @@
+use Rattle.sfx_model.proofs.Refusals.{gap_refused, fork_refused, lost_refused, twice_refused}
+use Rattle.sfx_model.proofs.Accepted.{edit_accepted, cleanup_accepted}
+use Rattle.sfx_model.proofs.world.examples.Goals as goal
+
+pub returns-clause-edit : goal.returns-clause-edit
+returns-clause-edit c = edit_accepted
+
+pub returns-clause-cleanup : goal.returns-clause-cleanup
+returns-clause-cleanup c = cleanup_accepted
+
+pub returns-clause-gap : goal.returns-clause-gap
+returns-clause-gap c = gap_refused
+
+pub returns-clause-fork : goal.returns-clause-fork
+returns-clause-fork c = fork_refused
+
+pub returns-clause-lost : goal.returns-clause-lost
+returns-clause-lost c = lost_refused
+
+pub returns-clause-twice : goal.returns-clause-twice
+returns-clause-twice c = twice_refused
