@@ -1,15 +1,15 @@
 -- A state of all members goes on representing the world through an event, where each member does.
-use Rattle.std.proofs.Common.{◌≡◌, ◌≢◌, ℕ, ◌≤◌, nat_eq, Bool, true, false, if◌then◌else◌, List, [], ◌∷◌, ◌++◌, Option, Some, None, IsSomeAnd, inl, inr, refl, sym, ◌∙◌, ap, subst, arith}
+use Rattle.std.proofs.Common.{◌≡◌, ◌≢◌, ℕ, Bool, true, false, if◌then◌else◌, List, [], ◌∷◌, ◌++◌, Some, inl, inr, refl, sym, ◌∙◌, ap, subst}
 use Rattle.std.proofs.lemmas.Bool.{eq-eqb, ne_eqb}
 use Rattle.std.specs.Str.{bytes_eq}
 use Rattle.sfx_model.specs.Sets.{Has}
-use Rattle.sfx_model.specs.World.{Record, World, Site, WellFormed, AreDistinct, IsOther}
-use Rattle.sfx_model.specs.Events.{Event, Units, Widen, Join, Make, Clean, Forget, Apply, Learn, site_of, put_site, at_site, after, Legal, site_made, site_cleaned, site_forgot, site_applied, site_learned, recorded, made, cleaned, forgot, applied, learned, MakeLegal, CleanLegal, ApplyLegal, LearnLegal}
-use Rattle.sfx_model.specs.Members.{Shown, Member, NamedMember, Community, Represents, RepresentsNamed, RepresentsAll, RepresentsWorld, AreRising, shown}
+use Rattle.sfx_model.specs.World.{Record, World, Site, WellFormed, AreDistinct}
+use Rattle.sfx_model.specs.Events.{Event, Units, Widen, Join, Make, Clean, Forget, Apply, Learn, site_of, put_site, after, Legal, site_made, site_cleaned, site_forgot, site_applied, site_learned, recorded, made, cleaned, forgot, applied, learned, MakeLegal, CleanLegal, ApplyLegal, LearnLegal}
+use Rattle.sfx_model.specs.Members.{Member, NamedMember, Community, Represents, RepresentsNamed, RepresentsAll, RepresentsWorld, AreRising, shown}
 use Rattle.sfx_model.specs.Replica.{RepresentsReplica}
 use Rattle.sfx_model.specs.States.{IsOf, ChangesMember, member_named, with_member}
 use Rattle.sfx_model.proofs.Words.{Step}
-use Rattle.sfx_model.proofs.Sites.{found, site_there, put_found}
+use Rattle.sfx_model.proofs.Sites.{found, site_there}
 use Rattle.sfx_model.proofs.Making.{make_step}
 use Rattle.sfx_model.proofs.Learning.{clean_step, forget_step, learn_step}
 use Rattle.sfx_model.proofs.Entering.{entry_records, entry_step}
@@ -41,16 +41,18 @@ replaced w x [] [] back m n new distinct is others own all = absurd all
 replaced w x [] (y ∷ ys) back m n new distinct is others own all = absurd all
 replaced w x (s ∷ ss) [] back m n new distinct is others own all =
     let same : s.id ≡ new.id = sym all.0.represents.header.id ∙ is in
-    rw (eq-eqb s.id new.id same)
-    ( own s (inl refl) all.0
-    , all_on w x ss back (λ t y has. others t y (inr has) (λ e. (distinct.0 t has).id (e ∙ sym same))) all.1 )
+    rw (eq-eqb s.id new.id same) (
+      own s (inl refl) all.0,
+      all_on w x ss back (λ t y has. others t y (inr has) (λ e. (distinct.0 t has).id (e ∙ sym same))) all.1,
+    )
 replaced w x (s ∷ ss) (y ∷ ys) back m n new distinct is others own all =
     let (t, has_t, rep) = named_site w ss (ys ++ m ∷ back) m all.1 (has_middle ys back m) in
     let there : t.id ≡ new.id = sym rep.represents.header.id ∙ is in
     let other : s.id ≢ new.id = λ e. (distinct.0 t has_t).id (there ∙ sym e) in
-    rw (ne_eqb s.id new.id other)
-    ( others s y (inl refl) other all.0
-    , replaced w x ss ys back m n new distinct.1 is (λ z k has. others z k (inr has)) (λ z has. own z (inr has)) all.1 )
+    rw (ne_eqb s.id new.id other) (
+      others s y (inl refl) other all.0,
+      replaced w x ss ys back m n new distinct.1 is (λ z k has. others z k (inr has)) (λ z has. own z (inr has)) all.1,
+    )
 
 -- The state after a step of one member's site.
 pub step_state : (w : World) (c d : Community) (m n : Member) (old new : Site) (rs : List Record) → WellFormed w → RepresentsWorld w c → ChangesMember m n c d → site_of w.sites m.id ≡ Some old → Step w old new rs →
@@ -58,18 +60,21 @@ pub step_state : (w : World) (c d : Community) (m n : Member) (old new : Site) (
 step_state w c d m n old new rs ok rep changes at step stands rising = record {
   units = changes.units ∙ rep.units;
   members = subst (λ (ms : List NamedMember). RepresentsAll x (put_site new w.sites) ms) (sym changes.now)
-    (replaced w x w.sites changes.front changes.back (record { name = changes.name; member = m }) (record { name = changes.name; member = n }) new ok.distinct (sym is)
-    (λ s y has other. named_on w x s y (other_stands w old new rs s (shown y.member) there ok step has))
-    (λ s has named. record { name = named.name ∙ same_name s has named; represents = stands; rising = rising })
-    (subst (λ (ms : List NamedMember). RepresentsAll w w.sites ms) changes.before rep.members));
+      (replaced w x w.sites changes.front changes.back (record { name = changes.name; member = m }) (record { name = changes.name; member = n }) new ok.distinct (sym is)
+      (λ s y has other. named_on w x s y (other_stands w old new rs s (shown y.member) there ok step has))
+      (λ s has named. record { name = named.name ∙ same_name s has named; represents = stands; rising = rising })
+      (subst (λ (ms : List NamedMember). RepresentsAll w w.sites ms) changes.before rep.members));
 }
   where
     x : World
     x = record w { records = rs; sites = put_site new w.sites }
+
     is : new.id ≡ m.id
     is = step.follows.id ∙ (found w.sites m.id old at).1
+
     there : site_of w.sites new.id ≡ Some old
     there = subst (λ (r : ℕ). site_of w.sites r ≡ Some old) (sym is) at
+
     same_name : (s : Site) → Has s w.sites → RepresentsNamed w s (record { name = changes.name; member = m }) → s.name ≡ new.name
     same_name s has named =
         let at_s : site_of w.sites m.id ≡ Some s = subst (λ (r : ℕ). site_of w.sites r ≡ Some s) (sym named.represents.header.id) (site_there w.sites s ok.distinct has) in

@@ -1,13 +1,13 @@
 -- Items in order of their ids: one more in its place, and another state for one of them.
-use Rattle.std.proofs.Common.{◌≡◌, ◌≢◌, ℕ, ◌<◌, ◌≤◌, ◌⊎◌, nat_eq, nat_lt, ◌&&◌, ◌||◌, Bool, true, false, if◌then◌else◌, List, [], ◌∷◌, Option, Some, None, inl, inr, refl, sym, ◌∙◌, ap, subst, arith}
-use Rattle.std.proofs.lemmas.Bool.{and_parts, and_from, or_cases, or_left, or_right, ltb-true, lt-ltb, eqb-true, eq-eqb, cases_Bool}
+use Rattle.std.proofs.Common.{◌≡◌, ◌≢◌, ◌⊎◌, nat_eq, nat_lt, ◌&&◌, Bool, true, false, if◌then◌else◌, List, [], ◌∷◌, Some, None, inl, inr, refl, sym, ◌∙◌, ap, subst}
+use Rattle.std.proofs.lemmas.Bool.{and_parts, and_from, or_cases, or_left, or_right, ltb-true, lt-ltb, eqb-true, eq-eqb}
 use Rattle.sfx_ids.specs.declared.item_id.ItemId.{ItemId}
 use Rattle.sfx_model.specs.Sets.{Has}
 use Rattle.sfx_model.specs.Events.{same_item}
 use Rattle.sfx_model.specs.Members.{MemberItem, ItemState, AreRising, IsIdBelow, state_of}
 use Rattle.sfx_model.specs.States.{is_id_below, with_item, with_state}
-use Rattle.sfx_model.proofs.Steps.{same_item_is, same_item_self}
-use Rattle.sfx_model.proofs.Rising.{other_item, ids_compared, before_differs, before_trans, state_here, state_behind}
+use Rattle.sfx_model.proofs.Steps.{same_item_is}
+use Rattle.sfx_model.proofs.Rising.{ids_compared, before_trans, state_here, state_behind}
 
 -- What the test of order finds.
 below_is : (a b : ItemId) → is_id_below a b ≡ true → IsIdBelow a b
@@ -15,8 +15,8 @@ below_is a b e =
     elim (or_cases (nat_lt a.tick b.tick) (nat_eq a.tick b.tick && nat_lt a.replica b.replica) e) [
       | inl less ↦ inl (ltb-true a.tick b.tick less)
       | inr both ↦
-        let parts = and_parts (nat_eq a.tick b.tick) (nat_lt a.replica b.replica) both in
-        inr (eqb-true a.tick b.tick parts.0, ltb-true a.replica b.replica parts.1)
+          let parts = and_parts (nat_eq a.tick b.tick) (nat_lt a.replica b.replica) both in
+          inr (eqb-true a.tick b.tick parts.0, ltb-true a.replica b.replica parts.1)
     ]
 
 is_below : (a b : ItemId) → IsIdBelow a b → is_id_below a b ≡ true
@@ -24,7 +24,7 @@ is_below a b below =
     elim below [
       | inl less ↦ or_left (nat_lt a.tick b.tick) (nat_eq a.tick b.tick && nat_lt a.replica b.replica) (lt-ltb a.tick b.tick less)
       | inr (same, less) ↦ or_right (nat_lt a.tick b.tick) (nat_eq a.tick b.tick && nat_lt a.replica b.replica)
-        (and_from (nat_eq a.tick b.tick) (nat_lt a.replica b.replica) (eq-eqb a.tick b.tick same) (lt-ltb a.replica b.replica less))
+          (and_from (nat_eq a.tick b.tick) (nat_lt a.replica b.replica) (eq-eqb a.tick b.tick same) (lt-ltb a.replica b.replica less))
     ]
 
 -- Where it fails on two ids, the other one comes before.
@@ -71,12 +71,13 @@ with_rising x [] rising new = (λ y has. absurd has, tt)
 with_rising x (z ∷ zs) rising new = by_test (with_rising x zs rising.1 (not_behind z zs x.id new)) (is_id_below z.id x.id) refl
   where
     by_test : AreRising (with_item x zs) → (b : Bool) → is_id_below z.id x.id ≡ b → AreRising (if b then z ∷ with_item x zs else x ∷ z ∷ zs)
-    by_test rest true e =
-        ( (λ y has. elim (with_has x zs y has) [
-            | inl is ↦ subst (λ (q : MemberItem). IsIdBelow z.id q.id) (sym is) (below_is z.id x.id e)
-            | inr there ↦ rising.0 y there
-          ])
-        , rest )
+    by_test rest true e = (
+      (λ y has. elim (with_has x zs y has) [
+        | inl is ↦ subst (λ (q : MemberItem). IsIdBelow z.id q.id) (sym is) (below_is z.id x.id e)
+        | inr there ↦ rising.0 y there
+      ]),
+      rest,
+    )
     by_test rest false e = (before_all x.id z zs (above_is z.id x.id e (not_head z zs x.id new)) rising, rising)
 
 -- It is found.
@@ -96,6 +97,7 @@ with_others x (z ∷ zs) j other = by_test (with_others x zs j other) (is_id_bel
     by_head : state_of (with_item x zs) j ≡ state_of zs j → (b : Bool) → (if b then Some z.state else state_of (with_item x zs) j) ≡ (if b then Some z.state else state_of zs j)
     by_head rest true = refl
     by_head rest false = rest
+
     by_test : state_of (with_item x zs) j ≡ state_of zs j → (b : Bool) → state_of (if b then z ∷ with_item x zs else x ∷ z ∷ zs) j ≡ state_of (z ∷ zs) j
     by_test rest true = by_head rest (same_item z.id j)
     by_test rest false = state_behind x (z ∷ zs) j other
@@ -135,6 +137,7 @@ state_others i st (x ∷ xs) j other = by_test (state_others i st xs j other) (s
     by_head : state_of (with_state i st xs) j ≡ state_of xs j → (b : Bool) → (if b then Some x.state else state_of (with_state i st xs) j) ≡ (if b then Some x.state else state_of xs j)
     by_head rest true = refl
     by_head rest false = rest
+
     by_test : state_of (with_state i st xs) j ≡ state_of xs j → (b : Bool) → same_item x.id i ≡ b → state_of (if b then record { id = x.id; state = st } ∷ xs else x ∷ with_state i st xs) j ≡ state_of (x ∷ xs) j
     by_test rest true e =
         let apart : x.id ≢ j = λ same. other (sym (same_item_is x.id i e) ∙ same) in

@@ -1,34 +1,42 @@
 -- What a line of a script does to a state: a unit count said, a replica added, an item created, edited or
 -- deleted.
-use Rattle.std.proofs.Common.{◌≡◌, ◌≢◌, ℕ, zero, suc, ◌+◌, ◌<◌, ◌≤◌, nat_eq, nat_lt, Bool, true, false, if◌then◌else◌, List, [], ◌∷◌, ◌++◌, map, length, Option, Some, None, ◌⊎◌, inl, inr, refl, sym, ◌∙◌, ap, subst, arith}
+use Rattle.std.proofs.Common.{◌≡◌, ◌≢◌, ℕ, zero, suc, ◌+◌, ◌<◌, ◌≤◌, true, false, List, [], ◌∷◌, ◌++◌, length, Option, Some, None, ◌⊎◌, inl, inr, refl, sym, ◌∙◌, ap, subst, arith}
 use Rattle.std.specs.Prelude.{slice_get, slice_set}
 use Rattle.std.specs.Option.{option_map}
-use Rattle.std.proofs.lemmas.Bool.{eq-eqb, ne_eqb, cases_eq, cases_lt, lt-ltb, le-ltb}
+use Rattle.std.proofs.lemmas.Bool.{eq-eqb, ne_eqb, cases_eq, lt-ltb, le-ltb}
 use Rattle.std.proofs.lemmas.Option.{slice_get-map, slice_get_past, slice_get_cases}
 use Rattle.std.proofs.lemmas.List.{length-map}
 use Rattle.std.proofs.Math.ListN.{length-set}
-use Rattle.sfx_ids.specs.declared.cut.Cut.{Cut}
 use Rattle.sfx_ids.specs.declared.item_id.ItemId.{ItemId}
 use Rattle.sfx_ids.specs.declared.version.Version.{Version}
-use Rattle.sfx_ids.specs.ItemId.{creation_of}
 use Rattle.sfx_ids.specs.Tick.{max_tick}
 use Rattle.sfx_item.specs.declared.cell.Cell.{Cell}
 use Rattle.sfx_model.specs.Sets.{Has}
-use Rattle.sfx_model.specs.World.{Content, Written, Deleted, World, Site, WellFormed, IsLiveHolding, holding}
-use Rattle.sfx_model.specs.Events.{same_item, Event, Units, Join, Make, UnitMark, Keeps, Stamps, site_of, new_site, after, Legal, MakeLegal, IsFresh, Creates, AreContents, AllStamped}
-use Rattle.sfx_model.specs.Members.{Shown, Member, MemberItem, ItemState, Live, Dead, NamedMember, Community, Represents, ItemRepresents, RepresentsNamed, RepresentsAll, RepresentsWorld, AreRising, shown, vector_at, clocks_at, tick_of, fvec, state_of}
-use Rattle.sfx_model.specs.Results.{EditResult, StateResult, DeadNow, LiveNow, CellResult, CellsResult, mark_of, cell_at, with_own, SameVectors}
-use Rattle.sfx_model.specs.Replica.{RepresentsReplica, IsNewMember}
-use Rattle.sfx_model.specs.States.{Continues, ChangesMember, ItemChanges, Rises, with_item, with_state, next_created, cells_with, IsNewState, IsUntaken, KnowsOthersAlike, next_version, next_item, cells_at, created_contents, edited_contents, deleted_contents}
-use Rattle.sfx_model.proofs.Sites.{found}
+use Rattle.sfx_model.specs.World.{empty_world, Content, Written, Deleted, World, Site, WellFormed, IsLiveHolding, holding}
+use Rattle.sfx_model.specs.Events.{same_item, Units, Join, Make, site_of, new_site, after, Legal, MakeLegal, IsFresh}
+use Rattle.sfx_model.specs.Members.{Shown, Member, MemberItem, ItemState, Live, Dead, NamedMember, Community, Represents, ItemRepresents, RepresentsNamed, RepresentsAll, RepresentsWorld, AreRising, shown, state_of}
+use Rattle.sfx_model.specs.Results.{KeepsOthers, EditResult, StateResult, DeadNow, LiveNow, CellResult, CellsResult, mark_of, cell_at}
+use Rattle.sfx_model.specs.Replica.{IsNewMember}
+use Rattle.sfx_model.specs.States.{Continues, ChangesMember, Rises, with_item, with_state, next_created, cells_with, IsNewState, IsUntaken, KnowsOthersAlike, next_version, next_item, cells_at, created_contents, edited_contents, deleted_contents}
 use Rattle.sfx_model.proofs.Keeping.{event_keeps}
-use Rattle.sfx_model.proofs.Headline.{named_site, no_deletion, cell_there}
+use Rattle.sfx_model.proofs.Headline.{no_deletion, cell_there}
 use Rattle.sfx_model.proofs.Joined.{join_others, join_new}
 use Rattle.sfx_model.proofs.Replicas.{edit_replica}
 use Rattle.sfx_model.proofs.Steps.{same_item_self}
 use Rattle.sfx_model.proofs.Standing.{known_bounded}
 use Rattle.sfx_model.proofs.Placing.{with_rising, with_found, with_others, state_rising, state_found, state_others}
 use Rattle.sfx_model.proofs.Communities.{all_on, event_state, member_site}
+
+-- The member m becomes n as its replica makes a version of an item, of which it then has this state; its
+-- other items stay, and the items are in order of their ids.
+pub record ItemChanges (i : ItemId) (state : ItemState) (m n : Member) : Type 0 where
+  pub id : n.id ≡ m.id
+  pub clock : n.clock ≡ m.clock + 1
+  pub knowledge : KnowsOthersAlike m n
+  pub forgotten : n.forgotten ≡ m.forgotten
+  pub item : state_of n.items i ≡ Some state
+  pub others : KeepsOthers i (shown m) (shown n)
+  pub rising : AreRising n.items
 
 -- The world of a state without members has no sites.
 no_sites : (w : World) (ss : List Site) → RepresentsAll w ss [] → ss ≡ []
@@ -93,8 +101,8 @@ join_state w c name id m ok rep said untaken new =
       represents = record {
         units = rep.units;
         members = all_behind (after w (Join name id)) w.sites c.members (new_site name id) (record { name = name; member = m })
-          (all_on w (after w (Join name id)) w.sites c.members (λ s y has is. record { name = is.name; represents = join_others w name id s (shown y.member) is.represents; rising = is.rising }) rep.members)
-          (record { name = refl; represents = join_new w name id (shown m) ok (new_shown id m new); rising = subst (λ (xs : List MemberItem). AreRising xs) (sym new.items) tt });
+            (all_on w (after w (Join name id)) w.sites c.members (λ s y has is. record { name = is.name; represents = join_others w name id s (shown y.member) is.represents; rising = is.rising }) rep.members)
+            (record { name = refl; represents = join_new w name id (shown m) ok (new_shown id m new); rising = subst (λ (xs : List MemberItem). AreRising xs) (sym new.items) tt });
       };
     }
 
@@ -107,8 +115,8 @@ change_result units i state contents m n changes result = record {
   vectors = λ place u r. elim (cases_eq r n.id) [
     | inl own ↦ rw (eq-eqb r n.id own) refl
     | inr other ↦
-      let apart : r ≢ m.id = λ e. other (e ∙ sym changes.id) in
-      rw (ne_eqb r n.id other, ne_eqb r m.id apart) (changes.knowledge place u r apart)
+        let apart : r ≢ m.id = λ e. other (e ∙ sym changes.id) in
+        rw (ne_eqb r n.id other, ne_eqb r m.id apart) (changes.knowledge place u r apart)
   ];
   forgotten = λ place r. rw changes.forgotten refl;
   others = changes.others;
@@ -122,7 +130,7 @@ change_state w c d m n i state contents ok rep changes change legal result = rec
   legal = legal;
   well_formed = event_keeps w (Make m.id i (next_version m) contents) ok legal;
   represents = event_state w (Make m.id i (next_version m) contents) c d m n ok rep legal refl changes change.rising
-    (edit_replica w m.id i (next_version m) contents (shown m) (shown n) ok legal (let (s, is) = member_site w c d m n ok rep changes in (s, is.at, is.represents)) (change_result w.units i state contents m n change result));
+      (edit_replica w m.id i (next_version m) contents (shown m) (shown n) ok legal (let (s, is) = member_site w c d m n ok rep changes in (s, is.at, is.represents)) (change_result w.units i state contents m n change result));
 }
 
 -- An event at a site is legal, where it is so at the site that is found.
@@ -196,9 +204,9 @@ live_at w s m i cells ok rep live =
     record {
       is_present = held.is_present;
       live = λ u small.
-        let (c, is) = cell_there cells u (omega (arith, held.latest.whole)) in
-        let cell = held.latest.each u c is in
-        (c.version, cell.latest, no_deletion w.records i u c.version c.value ok.history cell.value);
+          let (c, is) = cell_there cells u (omega (arith, held.latest.whole)) in
+          let cell = held.latest.each u c is in
+          (c.version, cell.latest, no_deletion w.records i u c.version c.value ok.history cell.value);
     }
 
 -- A live item has a cell for each unit.
@@ -230,10 +238,10 @@ edited_cells units unit v value cells whole = record {
   whole = length-set cells unit (cell_of v value) ∙ whole;
   each = λ u c here. elim (set_cases cells unit u (cell_of v value) c here) [
     | inl (same, is) ↦
-      subst (λ (o : Option Content). CellResult v (mark_of o) (slice_get cells u) None c) (sym (edited_here unit u value same))
-      (record { version = ap (λ (x : Cell). x.version) (sym is); bytes = ap (λ (x : Cell). x.value) (sym is) })
+        subst (λ (o : Option Content). CellResult v (mark_of o) (slice_get cells u) None c) (sym (edited_here unit u value same))
+        (record { version = ap (λ (x : Cell). x.version) (sym is); bytes = ap (λ (x : Cell). x.value) (sym is) })
     | inr (other, is) ↦
-      subst (λ (o : Option Content). CellResult v (mark_of o) (slice_get cells u) None c) (sym (edited_other unit u value other)) is
+        subst (λ (o : Option Content). CellResult v (mark_of o) (slice_get cells u) None c) (sym (edited_other unit u value other)) is
   ];
 }
 
@@ -301,12 +309,14 @@ next_unused w s m ok has rep = by_state (state_of m.items (next_item m)) refl
           | inl live ↦ let (v, latest, writes) = live 0 (ok.counted s has) in inr (v, latest.0)
           | inr dead ↦ let (v, each) = dead in inr (v, (each 0 (ok.counted s has)).0.0)
         ]
+
     unknown : (v : Version) → Has v (s.known (next_item m) 0) → ⊥
     unknown v there =
         let creation = (ok.sound s has (next_item m)).creation 0 v there 0 (ok.counted s has) in
         let low : m.clock + 1 ≤ s.clock = known_bounded w s s (next_item m) 0 (next_version m) ok has has (sym rep.header.id) creation in
         let clock : m.clock ≡ s.clock = rep.header.clock in
         omega arith
+
     by_state : (o : Option ItemState) → state_of m.items (next_item m) ≡ o → o ≡ None
     by_state None e = refl
     by_state (Some state) e =
@@ -358,3 +368,7 @@ pub delete_turn : (w : World) (c d : Community) (m n : Member) (i : ItemId) (cel
 delete_turn w c d m n i cells ok rep changes room live rises =
     let (s, is) = member_site w c d m n ok rep changes in
     deleted_state w c d m n i cells ok rep changes room live (state_changes m n i (Live cells) (Dead (next_version m)) is.rising live rises)
+
+-- The empty state represents the empty world.
+pub empty_state : RepresentsWorld empty_world (record { units = 0; members = [] })
+empty_state = record { units = refl; members = tt }

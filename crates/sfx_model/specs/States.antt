@@ -1,4 +1,4 @@
-use Rattle.std.specs.Prelude.{◌≡◌, ◌≢◌, ℕ, ◌+◌, Bool, true, false, if◌then◌else◌, nat_eq, nat_lt, ◌&&◌, ◌||◌, List, [], ◌∷◌, ◌++◌, map, Option, Some, None, slice_get, slice_set}
+use Rattle.std.specs.Prelude.{◌≡◌, ◌≢◌, ℕ, ◌+◌, Bool, if◌then◌else◌, nat_eq, nat_lt, ◌&&◌, ◌||◌, List, [], ◌∷◌, ◌++◌, map, Option, Some, None, slice_get, slice_set}
 use Rattle.std.specs.Option.{option_map}
 use Rattle.std.specs.Str.{bytes_eq}
 use Rattle.sfx_ids.specs.declared.cut.Cut.{Cut}
@@ -8,8 +8,7 @@ use Rattle.sfx_item.specs.declared.cell.Cell.{Cell}
 use Rattle.sfx_model.specs.Sets.{Has}
 use Rattle.sfx_model.specs.World.{Content, Written, Deleted, World, WellFormed}
 use Rattle.sfx_model.specs.Events.{Event, Units, Widen, Join, Make, Clean, Forget, Apply, Learn, after, Legal, same_item}
-use Rattle.sfx_model.specs.Members.{ItemState, Live, MemberItem, Member, NamedMember, Community, RepresentsWorld, AreRising, clocks_at, tick_of, fvec, shown, state_of}
-use Rattle.sfx_model.specs.Results.{KeepsOthers}
+use Rattle.sfx_model.specs.Members.{ItemState, Live, MemberItem, Member, NamedMember, Community, RepresentsWorld, clocks_at, tick_of, fvec}
 
 -- The event may happen in the world, the world after it is well-formed, and the state represents it.
 pub record Continues (w : World) (event : Event) (c : Community) : Type 0 where
@@ -75,17 +74,6 @@ pub record Rises (m n : Member) (items : List MemberItem) : Type 0 where
   pub knowledge : KnowsOthersAlike m n
   pub forgotten : n.forgotten ≡ m.forgotten
   pub holds : n.items ≡ items
-
--- The member m becomes n as its replica makes a version of an item, of which it then has this state; its
--- other items stay, and the items are in order of their ids.
-pub record ItemChanges (i : ItemId) (state : ItemState) (m n : Member) : Type 0 where
-  pub id : n.id ≡ m.id
-  pub clock : n.clock ≡ m.clock + 1
-  pub knowledge : KnowsOthersAlike m n
-  pub forgotten : n.forgotten ≡ m.forgotten
-  pub item : state_of n.items i ≡ Some state
-  pub others : KeepsOthers i (shown m) (shown n)
-  pub rising : AreRising n.items
 
 -- Whether the first id comes before the second.
 abbrev pub is_id_below : ItemId → ItemId → Bool

@@ -2,9 +2,8 @@
 //! represents its part of a world, and the laws of these.
 #![tactic(auto)]
 
-pub use members::{knowledge_is_exact, members_stand};
-
-mod members;
+pub use members::{knowledge_is_exact, members_stand, state_stands};
 pub use world::{events_keep, examples, marks_agree, short_run};
 
+mod members;
 mod world;

@@ -1,14 +1,17 @@
-ghost use Rattle.std.specs.Prelude.{Bool, List, Option, ℕ};
+ghost use Rattle.std.specs.Prelude.{◌≡◌, ℕ, ◌<◌, ◌≤◌, Bool, List, [], ◌∷◌, ◌++◌, length, Option, Some};
 ghost use Rattle.sfx_ids.specs.declared.cut.Cut.{Cut};
 ghost use Rattle.sfx_ids.specs.declared.item_id.ItemId.{ItemId};
 ghost use Rattle.sfx_ids.specs.declared.version.Version.{Version};
-ghost use Rattle.sfx_model.specs.Events.{Apply, Clean, Event, Forget, Join, Learn, Legal, Make, UnitMark, after};
+ghost use Rattle.sfx_ids.specs.Tick.{max_tick};
+ghost use Rattle.sfx_item.specs.declared.cell.Cell.{Cell};
+ghost use Rattle.sfx_model.specs.Events.{Apply, Clean, Event, Forget, Join, Learn, Legal, Make, UnitMark, Units, after};
 ghost use Rattle.sfx_model.specs.Headline.{DeletionsAreRespected, EqualKnowledgeMeansEqualItems, FactsHold, KnowledgeIsExact};
-ghost use Rattle.sfx_model.specs.Members.{AreRising, Community, ItemRepresents, ItemState, Represents, RepresentsWorld, Shown};
+ghost use Rattle.sfx_model.specs.Members.{AreRising, Community, Dead, ItemRepresents, ItemState, Live, Member, NamedMember, Represents, RepresentsWorld, Shown, shown, state_of};
 ghost use Rattle.sfx_model.specs.Replica.{IsNewMember, IsOfOthers, RepresentsReplica};
 ghost use Rattle.sfx_model.specs.Results.{Backs, BacksForgotten, BacksRange, CleanResult, EditResult, EntryResult, ForgetResult, LearnResult};
 ghost use Rattle.sfx_model.specs.Sets.{Has};
-ghost use Rattle.sfx_model.specs.World.{Content, Site, Snapshot, WellFormed, World, holding};
+ghost use Rattle.sfx_model.specs.States.{ChangesMember, Continues, IsNewState, IsOf, IsUntaken, Rises, cells_with, created_contents, deleted_contents, edited_contents, member_named, next_created, next_item, next_version, with_item, with_member, with_state};
+ghost use Rattle.sfx_model.specs.World.{Content, Site, Snapshot, WellFormed, World, empty_world, holding};
 
 /// The three facts, as a law of every well-formed world, for any number of replicas and units, and of
 /// every state that represents a site of it. Calling this does nothing.
@@ -68,4 +71,43 @@ pub fn members_stand()
         WellFormed w → Legal w (Learn r s lo hi left) → RepresentsReplica w r m →
         BacksRange w s lo hi made_with → LearnResult lo hi left made_with m n →
         RepresentsReplica (after w (Learn r s lo hi left)) r n }
+{}
+
+/// What the lines of a script do to a state of all members that represents a well-formed world, as a
+/// law: the line's event may happen, the world after it is well-formed, and the state afterwards
+/// represents it. It does nothing when called.
+///
+/// `empty`: a program starts with no units and no members. `units`: it says the unit count, once.
+/// `joined`: a replica is added behind the others, under a new name and id. `created`, `edited` and
+/// `deleted`: the member m becomes n by its next version, with one more item, with a value written to
+/// one unit of a live item, or with a live item deleted; the other members stay. `acted`: any event
+/// that a replica does at its own site, where its new state is known to represent it. `named`: what
+/// putting a member in the place of the one with its name does.
+pub fn state_stands()
+    ensures empty { RepresentsWorld empty_world (record { units = 0; members = [] }) }
+    ensures units { (w : World) (c : Community) (units : ℕ) →
+        WellFormed w → RepresentsWorld w c → c.units ≡ 0 → c.members ≡ [] → 1 ≤ units →
+        Continues w (Units units) (record { units = units; members = [] }) }
+    ensures joined { (w : World) (c : Community) (name : List ℕ) (id : ℕ) (m : Member) →
+        WellFormed w → RepresentsWorld w c → 1 ≤ c.units → IsUntaken name id c.members → IsNewState id m →
+        Continues w (Join name id) (record { units = c.units; members = c.members ++ record { name = name; member = m } ∷ [] }) }
+    ensures created { (w : World) (c d : Community) (m n : Member) (values : List (List ℕ)) →
+        WellFormed w → RepresentsWorld w c → ChangesMember m n c d → m.clock < max_tick → length values ≡ c.units →
+        Rises m n (with_item (next_created m values) m.items) →
+        Continues w (Make m.id (next_item m) (next_version m) (created_contents values)) d }
+    ensures edited { (w : World) (c d : Community) (m n : Member) (i : ItemId) (unit : ℕ) (value : List ℕ) (cells : List Cell) →
+        WellFormed w → RepresentsWorld w c → ChangesMember m n c d → m.clock < max_tick → unit < c.units →
+        state_of m.items i ≡ Some (Live cells) → Rises m n (with_state i (Live (cells_with m cells unit value)) m.items) →
+        Continues w (Make m.id i (next_version m) (edited_contents unit value)) d }
+    ensures deleted { (w : World) (c d : Community) (m n : Member) (i : ItemId) (cells : List Cell) →
+        WellFormed w → RepresentsWorld w c → ChangesMember m n c d → m.clock < max_tick →
+        state_of m.items i ≡ Some (Live cells) → Rises m n (with_state i (Dead (next_version m)) m.items) →
+        Continues w (Make m.id i (next_version m) (deleted_contents c.units)) d }
+    ensures acted { (w : World) (event : Event) (c d : Community) (m n : Member) →
+        WellFormed w → RepresentsWorld w c → Legal w event → IsOf event m.id → ChangesMember m n c d →
+        AreRising n.items → RepresentsReplica (after w event) m.id (shown n) →
+        RepresentsWorld (after w event) d }
+    ensures named { (name : List ℕ) (m n : Member) (units : ℕ) (members : List NamedMember) →
+        member_named name members ≡ Some m →
+        ChangesMember m n (record { units = units; members = members }) (record { units = units; members = with_member name n members }) }
 {}
