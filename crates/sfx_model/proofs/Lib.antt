@@ -29,3 +29,5 @@ pub mod Placing
 pub mod Refusals
 pub mod Accepted
 pub mod Run
+pub mod Classes
+pub mod Staying

@@ -8,3 +8,4 @@ pub mod Replica
 pub mod Agreement
 pub mod States
 pub mod Examples
+pub mod Snapshots
