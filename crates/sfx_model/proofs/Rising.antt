@@ -51,27 +51,36 @@ before_trans a b c ab bc =
     ]
 
 -- An id before all of a list is not in it
-pub state_below : (xs : List MemberItem) (i : ItemId) → ((y : MemberItem) → Has y xs → IsIdBelow i y.id) → state_of xs i ≡ None
+pub state_below :
+    (xs : List MemberItem) (i : ItemId)
+    → ((y : MemberItem) → Has y xs → IsIdBelow i y.id) → state_of xs i ≡ None
 state_below [] i below = refl
 state_below (x ∷ xs) i below =
-    let off : same_item x.id i ≡ false = other_item x.id i (λ same. before_differs i x.id (below x (inl refl)) (sym same)) in
+    let off : same_item x.id i ≡ false =
+    other_item x.id i (λ same. before_differs i x.id (below x (inl refl)) (sym same)) in
     rw off (state_below xs i (λ y has. below y (inr has)))
 
 -- The look-up at the head, and behind it
 pub state_here : (x : MemberItem) (xs : List MemberItem) → state_of (x ∷ xs) x.id ≡ Some x.state
 state_here x xs = rw (same_item_self x.id) refl
 
-pub state_behind : (x : MemberItem) (xs : List MemberItem) (i : ItemId) → x.id ≢ i → state_of (x ∷ xs) i ≡ state_of xs i
+pub state_behind :
+    (x : MemberItem) (xs : List MemberItem) (i : ItemId)
+    → x.id ≢ i → state_of (x ∷ xs) i ≡ state_of xs i
 state_behind x xs i ne = rw (other_item x.id i ne) refl
 
 -- Rising lists behind equal heads look up alike
-tails_alike : (x : MemberItem) (xs ys : List MemberItem) → AreRising (x ∷ xs) → AreRising (x ∷ ys) → ((i : ItemId) → state_of (x ∷ xs) i ≡ state_of (x ∷ ys) i) → (i : ItemId) → state_of xs i ≡ state_of ys i
+tails_alike :
+    (x : MemberItem) (xs ys : List MemberItem)
+    → AreRising (x ∷ xs) → AreRising (x ∷ ys) → ((i : ItemId) → state_of (x ∷ xs) i ≡ state_of (x ∷ ys) i)
+    → (i : ItemId) → state_of xs i ≡ state_of ys i
 tails_alike x xs ys rising others alike i = by_test (same_item x.id i) refl
   where
     by_test : (b : Bool) → same_item x.id i ≡ b → state_of xs i ≡ state_of ys i
     by_test true e =
         let is : x.id ≡ i = same_item_is x.id i e in
-        subst (λ (j : ItemId). state_of xs j ≡ state_of ys j) is (state_below xs x.id rising.0 ∙ sym (state_below ys x.id others.0))
+        subst (λ (j : ItemId). state_of xs j ≡ state_of ys j) is
+        (state_below xs x.id rising.0 ∙ sym (state_below ys x.id others.0))
     by_test false e = let h = alike i in rw e at h
 
 abbrev item_with : ItemId → ItemState → MemberItem
@@ -81,30 +90,59 @@ pub items_are : (x y : MemberItem) → x.id ≡ y.id → x.state ≡ y.state →
 items_are x y p q = let e : item_with x.id x.state ≡ item_with y.id y.state = rw (p, q) refl in e
 
 -- Rising lists that look up alike are equal
-pub rising_equal : (xs ys : List MemberItem) → AreRising xs → AreRising ys → ((i : ItemId) → state_of xs i ≡ state_of ys i) → xs ≡ ys
+pub rising_equal :
+    (xs ys : List MemberItem)
+    → AreRising xs → AreRising ys → ((i : ItemId) → state_of xs i ≡ state_of ys i) → xs ≡ ys
 rising_equal [] [] rising others alike = refl
-rising_equal [] (y ∷ ys) rising others alike = let bad : None ≡ Some y.state = alike y.id ∙ state_here y ys in absurd (cc)
-rising_equal (x ∷ xs) [] rising others alike = let bad : Some x.state ≡ None = sym (state_here x xs) ∙ alike x.id in absurd (cc)
+rising_equal [] (y ∷ ys) rising others alike = let bad : None ≡ Some y.state = alike y.id ∙ state_here y ys in
+    absurd (cc)
+rising_equal (x ∷ xs) [] rising others alike = let bad : Some x.state ≡ None = sym (state_here x xs) ∙ alike x.id in
+    absurd (cc)
 rising_equal (x ∷ xs) (y ∷ ys) rising others alike =
     elim (ids_compared x.id y.id) [
       | inl same ↦
-          let states : Some x.state ≡ Some y.state = sym (state_here x xs) ∙ alike x.id ∙ subst (λ (j : ItemId). state_of (y ∷ ys) j ≡ Some y.state) (sym same) (state_here y ys) in
+          let states : Some x.state ≡ Some y.state =
+          sym (state_here x xs) ∙ alike x.id ∙ subst (λ (j : ItemId). state_of (y ∷ ys) j ≡ Some y.state)
+          (sym same) (state_here y ys) in
           let one : x ≡ y = items_are x y same (cc) in
-          let rest : xs ≡ ys = rising_equal xs ys rising.1 others.1 (tails_alike x xs ys rising (subst (λ (z : MemberItem). AreRising (z ∷ ys)) (sym one) others) (λ i. alike i ∙ ap (λ (z : MemberItem). state_of (z ∷ ys) i) (sym one))) in
+          let rest : xs ≡ ys = rising_equal xs ys rising.1 others.1
+          (tails_alike x xs ys rising (subst (λ (z : MemberItem). AreRising (z ∷ ys)) (sym one) others)
+          (λ i. alike i ∙ ap (λ (z : MemberItem). state_of (z ∷ ys) i) (sym one))) in
           cc
       | inr apart ↦ elim apart [
         | inl lt ↦
-            let bad : Some x.state ≡ None = sym (state_here x xs) ∙ alike x.id ∙ state_below (y ∷ ys) x.id (λ z has. elim has [ inl is ↦ subst (λ (q : MemberItem). IsIdBelow x.id q.id) (sym is) lt | inr there ↦ before_trans x.id y.id z.id lt (others.0 z there) ]) in
+            let bad : Some x.state ≡ None =
+            sym (state_here x xs) ∙ alike x.id ∙ state_below (y ∷ ys) x.id
+            (λ z has. elim has [
+              | inl is ↦
+                  subst (λ (q : MemberItem). IsIdBelow x.id q.id) (sym is) lt
+              | inr there ↦
+                  before_trans x.id y.id z.id lt (others.0 z there)
+            ]) in
             absurd (cc)
         | inr gt ↦
-            let bad : Some y.state ≡ None = sym (state_here y ys) ∙ sym (alike y.id) ∙ state_below (x ∷ xs) y.id (λ z has. elim has [ inl is ↦ subst (λ (q : MemberItem). IsIdBelow y.id q.id) (sym is) gt | inr there ↦ before_trans y.id x.id z.id gt (rising.0 z there) ]) in
+            let bad : Some y.state ≡ None =
+            sym (state_here y ys) ∙ sym (alike y.id) ∙ state_below (x ∷ xs) y.id
+            (λ z has. elim has [
+              | inl is ↦
+                  subst (λ (q : MemberItem). IsIdBelow y.id q.id) (sym is) gt
+              | inr there ↦
+                  before_trans y.id x.id z.id gt (rising.0 z there)
+            ]) in
             absurd (cc)
       ]
     ]
 
 -- An item of a list with a live head, or without it, is the head or behind it
-live_within_one : (x : MemberItem) (st : ItemState) (xs ys : List MemberItem) (y : MemberItem) → x.state ≡ st → (Has y ys → Has y xs) → Has y (live_item x.id st ys) → Has y (x ∷ xs)
-live_within_one x (Live cells) xs ys y e rest has = elim has [ inl is ↦ inl (is ∙ sym (items_are x (item_with x.id (Live cells)) refl e)) | inr there ↦ inr (rest there) ]
+live_within_one :
+    (x : MemberItem) (st : ItemState) (xs ys : List MemberItem) (y : MemberItem)
+    → x.state ≡ st → (Has y ys → Has y xs) → Has y (live_item x.id st ys) → Has y (x ∷ xs)
+live_within_one x (Live cells) xs ys y e rest has =
+    elim has [
+      | inl is ↦ inl (is ∙ sym (items_are x (item_with x.id (Live cells)) refl e))
+      | inr there ↦
+          inr (rest there)
+    ]
 live_within_one x (Dead v) xs ys y e rest has = inr (rest has)
 
 -- The live items are among the items
@@ -112,14 +150,17 @@ pub live_within : (xs : List MemberItem) (y : MemberItem) → Has y (live_items 
 live_within [] y has = has
 live_within (x ∷ xs) y has = live_within_one x x.state xs (live_items xs) y refl (live_within xs y) has
 
-rising_with : (x : MemberItem) (st : ItemState) (ys : List MemberItem) → ((y : MemberItem) → Has y ys → IsIdBelow x.id y.id) → AreRising ys → AreRising (live_item x.id st ys)
+rising_with :
+    (x : MemberItem) (st : ItemState) (ys : List MemberItem)
+    → ((y : MemberItem) → Has y ys → IsIdBelow x.id y.id) → AreRising ys → AreRising (live_item x.id st ys)
 rising_with x (Live cells) ys before rising = (before, rising)
 rising_with x (Dead v) ys before rising = rising
 
 -- The live items of a rising list rise
 pub rising_live : (xs : List MemberItem) → AreRising xs → AreRising (live_items xs)
 rising_live [] rising = rising
-rising_live (x ∷ xs) rising = rising_with x x.state (live_items xs) (λ y has. rising.0 y (live_within xs y has)) (rising_live xs rising.1)
+rising_live (x ∷ xs) rising =
+    rising_with x x.state (live_items xs) (λ y has. rising.0 y (live_within xs y has)) (rising_live xs rising.1)
 
 -- The state, where it is live
 abbrev pub live_only : Option ItemState → Option ItemState
@@ -128,35 +169,49 @@ live_only (Some (Live cells)) = Some (Live cells)
 live_only (Some (Dead v)) = None
 
 -- The look-up in the live items, by the state of the head
-live_step : (x : MemberItem) (st : ItemState) (xs ys : List MemberItem) (i : ItemId) → x.state ≡ st → ((y : MemberItem) → Has y xs → IsIdBelow x.id y.id) → state_of ys i ≡ live_only (state_of xs i) → state_of (live_item x.id st ys) i ≡ live_only (state_of (x ∷ xs) i)
+live_step :
+    (x : MemberItem) (st : ItemState) (xs ys : List MemberItem) (i : ItemId)
+    → x.state ≡ st → ((y : MemberItem) → Has y xs → IsIdBelow x.id y.id) → state_of ys i ≡ live_only (state_of xs i)
+    → state_of (live_item x.id st ys) i ≡ live_only (state_of (x ∷ xs) i)
 live_step x (Live cells) xs ys i e before rest = by_test (same_item x.id i) refl
   where
-    by_test : (b : Bool) → same_item x.id i ≡ b → state_of (item_with x.id (Live cells) ∷ ys) i ≡ live_only (state_of (x ∷ xs) i)
+    by_test :
+        (b : Bool)
+        → same_item x.id i ≡ b → state_of (item_with x.id (Live cells) ∷ ys) i ≡ live_only (state_of (x ∷ xs) i)
     by_test true t = rw (t, e) refl
     by_test false t = rw t rest
 live_step x (Dead v) xs ys i e before rest = by_test (same_item x.id i) refl
   where
     by_test : (b : Bool) → same_item x.id i ≡ b → state_of ys i ≡ live_only (state_of (x ∷ xs) i)
     by_test true t =
-        let below : state_of xs i ≡ None = subst (λ (j : ItemId). state_of xs j ≡ None) (same_item_is x.id i t) (state_below xs x.id before) in
+        let below : state_of xs i ≡ None =
+        subst (λ (j : ItemId). state_of xs j ≡ None) (same_item_is x.id i t) (state_below xs x.id before) in
         let gone : state_of ys i ≡ None = rest ∙ ap live_only below in
         rw (t, e) gone
     by_test false t = rw t rest
 
 -- The look-up in the live items of a rising list
-pub state_live : (xs : List MemberItem) (i : ItemId) → AreRising xs → state_of (live_items xs) i ≡ live_only (state_of xs i)
+pub state_live :
+    (xs : List MemberItem) (i : ItemId)
+    → AreRising xs → state_of (live_items xs) i ≡ live_only (state_of xs i)
 state_live [] i rising = refl
 state_live (x ∷ xs) i rising = live_step x x.state xs (live_items xs) i refl rising.0 (state_live xs i rising.1)
 
 -- Rising lists that have the same items live, with the same cells, have equal lists of live items
-pub live_equal : (xs ys : List MemberItem) → AreRising xs → AreRising ys →
-    ((i : ItemId) (cells : List Cell) → state_of xs i ≡ Some (Live cells) → state_of ys i ≡ Some (Live cells)) →
-    ((i : ItemId) (cells : List Cell) → state_of ys i ≡ Some (Live cells) → state_of xs i ≡ Some (Live cells)) → live_items xs ≡ live_items ys
+pub live_equal :
+    (xs ys : List MemberItem)
+    → AreRising xs → AreRising ys
+    → ((i : ItemId) (cells : List Cell) → state_of xs i ≡ Some (Live cells) → state_of ys i ≡ Some (Live cells))
+    → ((i : ItemId) (cells : List Cell) → state_of ys i ≡ Some (Live cells) → state_of xs i ≡ Some (Live cells))
+    → live_items xs ≡ live_items ys
 live_equal xs ys rising others there back =
     rising_equal (live_items xs) (live_items ys) (rising_live xs rising) (rising_live ys others)
-    (λ i. state_live xs i rising ∙ by_states i (state_of xs i) (state_of ys i) refl refl ∙ sym (state_live ys i others))
+    (λ i. state_live xs i rising ∙ by_states i (state_of xs i) (state_of ys i) refl refl ∙ sym
+    (state_live ys i others))
   where
-    by_states : (i : ItemId) (o p : Option ItemState) → state_of xs i ≡ o → state_of ys i ≡ p → live_only (state_of xs i) ≡ live_only (state_of ys i)
+    by_states :
+        (i : ItemId) (o p : Option ItemState)
+        → state_of xs i ≡ o → state_of ys i ≡ p → live_only (state_of xs i) ≡ live_only (state_of ys i)
     by_states i (Some (Live cells)) p e f = ap live_only (e ∙ sym (there i cells e))
     by_states i None (Some (Live cells)) e f = ap live_only (back i cells f ∙ sym f)
     by_states i None None e f = ap live_only (e ∙ sym f)

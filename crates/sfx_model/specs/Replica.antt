@@ -8,8 +8,8 @@ use Rattle.sfx_model.specs.Members.{Shown, Represents}
 abbrev pub RepresentsReplica : World → ℕ → Shown → Type 0
 RepresentsReplica w r m = (s : Site) × (site_of w.sites r ≡ Some s) × Represents w s m
 
--- The event is not of this replica. A unit count and a replica that joins are of no other replica, more
--- units are of all.
+-- The event is not of this replica. A unit count and a replica that joins are of no other replica,
+-- more units are of all.
 abbrev pub IsOfOthers : Event → ℕ → Type 0
 IsOfOthers (Units units) r = Unit {0}
 IsOfOthers (Widen more) r = ⊥
@@ -20,8 +20,8 @@ IsOfOthers (Forget forgetter snapshot lo hi) r = forgetter ≢ r
 IsOfOthers (Apply receiver snapshot i v marks) r = receiver ≢ r
 IsOfOthers (Learn learner snapshot lo hi left) r = learner ≢ r
 
--- The state of a replica that just joined under this id: its clock is 0, and it knows, holds and has
--- forgotten nothing.
+-- The state of a replica that just joined under this id: its clock is 0, and it knows, holds and
+-- has forgotten nothing.
 pub record IsNewMember (id : ℕ) (m : Shown) : Type 0 where
   pub id_is : m.id ≡ id
   pub clock : m.clock ≡ 0

@@ -21,15 +21,17 @@ KeepsUnits (Forget r snapshot lo hi) = Unit {0}
 KeepsUnits (Apply r snapshot i v marks) = Unit {0}
 KeepsUnits (Learn r snapshot lo hi left) = Unit {0}
 
--- A snapshot that is carried through a world, as by a letter: it is sound, its made-with knowledge is exact
--- at the item, and it has this state of the item.
-pub record Carried (w : World) (snapshot : Snapshot) (i : ItemId) (made_with : Cut → ℕ → ℕ → ℕ) (seen : Option ItemState) : Type 0 where
+-- A snapshot that is carried through a world, as by a letter: it is sound, its made-with knowledge
+-- is exact at the item, and it has this state of the item.
+pub record Carried (w : World) (snapshot : Snapshot) (i : ItemId) (made_with : Cut → ℕ → ℕ → ℕ)
+    (seen : Option ItemState) : Type 0 where
   pub sound : IsSound w snapshot
   pub backs : Backs w snapshot i made_with
   pub state : ItemRepresents w.units w.records i (holding snapshot i) seen
 
 -- A member that represents its site meets a carried snapshot.
-pub record Meets (w : World) (s : Site) (m : Shown) (snapshot : Snapshot) (i : ItemId) (made_with : Cut → ℕ → ℕ → ℕ) (seen : Option ItemState) : Type 0 where
+pub record Meets (w : World) (s : Site) (m : Shown) (snapshot : Snapshot) (i : ItemId)
+    (made_with : Cut → ℕ → ℕ → ℕ) (seen : Option ItemState) : Type 0 where
   pub here : Has s w.sites
   pub represents : Represents w s m
   pub carried : Carried w snapshot i made_with seen
@@ -40,4 +42,5 @@ HasContained state u clocks = (v : Version) × (version_at state u ≡ Some v) �
 
 -- These forgotten deletions at the item are within the knowledge of it, at every unit.
 abbrev pub AreWithin : ℕ → ItemId → (Cut → ℕ → ℕ) → (Cut → ℕ → ℕ → ℕ) → Type 0
-AreWithin units i forgotten vectors = (u r : ℕ) → u < units → forgotten (At i) r ≤ vectors (At i) u r
+AreWithin units i forgotten vectors = (u r : ℕ) → u < units →
+    forgotten (At i) r ≤ vectors (At i) u r

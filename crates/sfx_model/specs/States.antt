@@ -10,7 +10,8 @@ use Rattle.sfx_model.specs.World.{Content, Written, Deleted, World, WellFormed}
 use Rattle.sfx_model.specs.Events.{Event, Units, Widen, Join, Make, Clean, Forget, Apply, Learn, after, Legal, same_item}
 use Rattle.sfx_model.specs.Members.{ItemState, Live, MemberItem, Member, NamedMember, Community, RepresentsWorld, clocks_at, tick_of, fvec}
 
--- The event may happen in the world, the world after it is well-formed, and the state represents it.
+-- The event may happen in the world, the world after it is well-formed, and the state represents
+-- it.
 pub record Continues (w : World) (event : Event) (c : Community) : Type 0 where
   pub legal : Legal w event
   pub well_formed : WellFormed (after w event)
@@ -27,8 +28,8 @@ IsOf (Forget forgetter snapshot lo hi) r = forgetter ≡ r
 IsOf (Apply receiver snapshot i v marks) r = receiver ≡ r
 IsOf (Learn learner snapshot lo hi left) r = learner ≡ r
 
--- The state c becomes d as its member m becomes n: the name and the place in the list stay, and so does
--- every other member.
+-- The state c becomes d as its member m becomes n: the name and the place in the list stay, and so
+-- does every other member.
 pub record ChangesMember (m n : Member) (c d : Community) : Type 0 where
   pub front : List NamedMember
   pub name : List ℕ
@@ -46,7 +47,19 @@ member_named name (x ∷ xs) = if bytes_eq x.name name then Some x.member else m
 abbrev pub with_member : List ℕ → Member → List NamedMember → List NamedMember
 with_member name m [] = []
 with_member name m (x ∷ xs) =
-    if bytes_eq x.name name then record { name = x.name; member = m } ∷ xs else x ∷ with_member name m xs
+    if bytes_eq x.name name then record { name = x.name; member = m } ∷ xs
+    else x ∷ with_member name m xs
+
+-- The state with one more member, behind the others.
+abbrev pub with_added : List ℕ → Member → Community → Community
+with_added name m c = record {
+  units = c.units;
+  members = c.members ++ record { name = name; member = m } ∷ [];
+}
+
+-- The state with this member under the name.
+abbrev pub with_changed : List ℕ → Member → Community → Community
+with_changed name m c = record { units = c.units; members = with_member name m c.members }
 
 -- The version that the member makes next.
 abbrev pub next_version : Member → Version
@@ -60,14 +73,15 @@ next_item m = record { tick = m.clock + 1; replica = m.id }
 abbrev pub cells_at : Version → List (List ℕ) → List Cell
 cells_at v values = map (λ value. record { version = v; value = value }) values
 
--- Both members have the same knowledge, but for the entries of their own replica, over which the clock
--- is laid.
+-- Both members have the same knowledge, but for the entries of their own replica, over which the
+-- clock is laid.
 abbrev pub KnowsOthersAlike : Member → Member → Type 0
 KnowsOthersAlike m n =
-    (place : Cut) (u r : ℕ) → r ≢ m.id → tick_of (clocks_at n.knowledge place u) r ≡ tick_of (clocks_at m.knowledge place u) r
+    (place : Cut) (u r : ℕ) → r ≢ m.id →
+    tick_of (clocks_at n.knowledge place u) r ≡ tick_of (clocks_at m.knowledge place u) r
 
--- The member m becomes n as its replica makes a version: its clock rises by one, what it knows of others
--- and has forgotten stays, and these are its items.
+-- The member m becomes n as its replica makes a version: its clock rises by one, what it knows of
+-- others and has forgotten stays, and these are its items.
 pub record Rises (m n : Member) (items : List MemberItem) : Type 0 where
   pub id : n.id ≡ m.id
   pub clock : n.clock ≡ m.clock + 1
@@ -96,7 +110,8 @@ next_created m values = record { id = next_item m; state = Live (cells_at (next_
 
 -- The cells with the value written to one unit, at the version that the member makes next.
 abbrev pub cells_with : Member → List Cell → ℕ → List ℕ → List Cell
-cells_with m cells unit value = slice_set cells unit (record { version = next_version m; value = value })
+cells_with m cells unit value = slice_set cells unit
+    (record { version = next_version m; value = value })
 
 -- The contents of a creation with these values, one for each unit.
 abbrev pub created_contents : List (List ℕ) → ℕ → Option Content
@@ -110,7 +125,8 @@ edited_contents unit value u = if nat_eq u unit then Some (Written value) else N
 abbrev pub deleted_contents : ℕ → ℕ → Option Content
 deleted_contents units u = if nat_lt u units then Some Deleted else None
 
--- A member of a replica that just joined: its clock is 0, and it knows, holds and has forgotten nothing.
+-- A member of a replica that just joined: its clock is 0, and it knows, holds and has forgotten
+-- nothing.
 pub record IsNewState (id : ℕ) (m : Member) : Type 0 where
   pub id_is : m.id ≡ id
   pub clock : m.clock ≡ 0

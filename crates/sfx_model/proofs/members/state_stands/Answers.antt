@@ -24,4 +24,4 @@ pub returns-clause-acted : goal.returns-clause-acted
 returns-clause-acted c = event_state
 
 pub returns-clause-named : goal.returns-clause-named
-returns-clause-named c = changes_named
+returns-clause-named c name m n d is = changes_named name m n d.units d.members is
