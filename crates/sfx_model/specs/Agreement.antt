@@ -23,12 +23,15 @@ StampsDelete units marks = (u : ℕ) (c : Content) → u < units → marks u ≡
 abbrev pub NoneDrops : ℕ → (ℕ → UnitMark) → Type 0
 NoneDrops units marks = (u : ℕ) → u < units → marks u ≢ Drops
 
--- What is asked of all marks of an entry together, said of any two units. Where two units have different
--- marks, the snapshot's item is live, the result is live, and the local item is live or each unit is
--- taken or stamped. Stamped contents delete at all units or at none. All units are dropped or none is.
+-- What is asked of all marks of an entry together, said of any two units.
 pub record AgreesAcrossUnits (w : World) (s : Site) (snapshot : Snapshot) (i : ItemId) (marks : ℕ → UnitMark) : Type 0 where
+  -- where two units have different marks, the snapshot's item is live,
   pub there : MarksDiffer w.units marks → IsLiveHolding w.units w.records i (holding snapshot i)
+  -- and so is the result,
   pub result : MarksDiffer w.units marks → NoneDeletes w.units marks
+  -- and the local item is live, or each unit is taken or stamped
   pub here : MarksDiffer w.units marks → IsLiveHolding w.units w.records i (holding s i) ⊎ AllBring w.units marks
+  -- stamped contents delete at all units or at none
   pub deletions : NoneDeletes w.units marks ⊎ StampsDelete w.units marks
+  -- all units are dropped or none is
   pub drops : NoneDrops w.units marks ⊎ AllMarked w.units marks Drops

@@ -10,31 +10,37 @@ use Rattle.sfx_ids.specs.Tick.{max_tick}
 use Rattle.sfx_model.specs.Sets.{Has, IsPart}
 use Rattle.sfx_model.specs.World.{Content, Written, Deleted, Record, Site, Snapshot, World, IsDeadAt, IsLiveHolding, IsForgotten, IsSound, holding}
 
--- What an applied entry does with one unit of its item. The unit keeps the local version, takes the
--- snapshot's, or is stamped: it gets a content of its own at the entry's version. At each of these, what
--- the snapshot knows is learned; a skipped unit is left alone. A dropped unit goes with its item, of
--- which the snapshot knows that it was cleaned away.
+-- What an applied entry does with one unit of its item. What the snapshot knows of the unit is learned,
+-- unless the unit is skipped.
 pub data UnitMark : Type 0 where
+  -- the local version stays
   Keeps : UnitMark
+  -- the snapshot's version is taken
   Takes : UnitMark
+  -- the unit gets this content at the entry's version
   Stamps : (content : Content) → UnitMark
+  -- the unit is left alone
   Skips : UnitMark
+  -- the unit goes with its item, which was cleaned away
   Drops : UnitMark
 
--- What can happen in a world. `Units` says how many units an item has, and `Widen` adds units. A replica
--- joins. A replica makes a version of an item, with contents for some units. It cleans a deleted item
--- away, its latest version being given, and remembers that at the places of a range. It joins a
--- snapshot's forgotten deletions at the places of a range. It applies an entry: a snapshot's state of
--- one item, with a mark for each unit. It learns all that a snapshot knows of a range of items, but for
--- the units left out.
+-- What can happen in a world. A replica that acts is named by its id.
 pub data Event : Type 0 where
+  -- items get this many units
   Units : (units : ℕ) → Event
+  -- items get so many more units, each with the history of unit 0
   Widen : (more : ℕ) → Event
+  -- a replica joins
   Join : (name : List ℕ) (id : ℕ) → Event
+  -- a replica makes a version of an item, with a content for some units: a creation, an edit, a deletion
   Make : (replica : ℕ) (item : ItemId) (version : Version) (contents : ℕ → Option Content) → Event
+  -- a replica cleans a deleted item of this version away, and remembers that at the places of a range
   Clean : (replica : ℕ) (item : ItemId) (version : Version) (lo hi : Cut) → Event
+  -- a replica joins a snapshot's forgotten deletions at the places of a range
   Forget : (replica : ℕ) (snapshot : Snapshot) (lo hi : Cut) → Event
+  -- a replica applies an entry: a snapshot's state of one item, with a mark for each unit
   Apply : (replica : ℕ) (snapshot : Snapshot) (item : ItemId) (version : Version) (marks : ℕ → UnitMark) → Event
+  -- a replica learns all that a snapshot knows of a range of items, but for the units left out
   Learn : (replica : ℕ) (snapshot : Snapshot) (lo hi : Cut) (left : ItemId → ℕ → Bool) → Event
 
 -- Whether both ids are of one item.

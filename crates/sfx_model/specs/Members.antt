@@ -147,13 +147,15 @@ pub record IsBounded (sites : List Site) (m : Shown) : Type 0 where
   pub vectors : (place : Cut) (u r : ℕ) → m.vector_at place u r ≤ clock_of sites r
   pub forgotten : (place : Cut) (r : ℕ) → m.forgotten place r ≤ clock_of sites r
 
--- A member's state represents its site in the world: its knowledge of a cell contains exactly those made
--- versions that the site knows, its items are the site's, and so are its id, clock and forgotten
--- deletions; and its vectors stay within the clocks of the world.
+-- A member's state represents its site in the world.
 pub record Represents (w : World) (s : Site) (m : Shown) : Type 0 where
+  -- its knowledge of a cell contains exactly those made versions that the site knows
   pub exact : (i : ItemId) (u : ℕ) (v : Version) → Made w.records i u v → IsContained (m.vector_at (At i) u) v ↔ Has v (s.known i u)
+  -- its items are the site's, with the latest versions and their values
   pub items : (i : ItemId) → ItemRepresents w.units w.records i (holding s i) (state_of m.items i)
+  -- so are its id, clock and forgotten deletions
   pub header : SameHeader s m
+  -- its vectors stay within the clocks of the world
   pub bounded : IsBounded w.sites m
 
 -- The first id comes before the second: ids are in order by tick, then by replica.

@@ -110,13 +110,15 @@ pub record IsClosed (rs : List Record) (i : ItemId) (u : ℕ) (vs : List Version
   pub made : (v : Version) → Has v vs → Made rs i u v
   pub closed : (v : Version) (r : Record) → Has v vs → Has r rs → IsAt r i u v → IsPart r.made_knowing vs
 
--- What holds of one item at a sound site. The known versions of each cell are closed. A present item is
--- live, or dead by one version. What is known of an absent item was forgotten. Where a version of the
--- item is known at all, its creation is known at every unit.
+-- What holds of one item at a sound site.
 pub record IsSoundItem (units : ℕ) (rs : List Record) (i : ItemId) (h : Holding) : Type 0 where
+  -- the known versions of each cell are closed
   pub cells : (u : ℕ) → IsClosed rs i u (h.known u)
+  -- a present item is live at each unit, or dead by one version
   pub held : h.present ≡ true → IsLive units rs i h.known ⊎ IsDead units rs i h.known
+  -- each known version of an absent item gave way to a forgotten deletion
   pub cleaned : h.present ≡ false → (u : ℕ) (v : Version) → Has v (h.known u) → IsForgotten rs i u (h.known u) h.forgotten v
+  -- where a version of the item is known at all, its creation is known at every unit
   pub creation : (u : ℕ) (v : Version) → Has v (h.known u) → (x : ℕ) → x < units → Has (creation_of i) (h.known x)
 
 -- A sound site or snapshot: so is each of its items.
@@ -140,12 +142,15 @@ pub record IsMaker (s : Site) (v : Version) : Type 0 where
   pub least : 1 ≤ v.tick
   pub most : v.tick ≤ s.clock
 
--- The record is of this world: a replica of it made the version, the unit is one that items have, all
--- records of the version are of one item, and the item's creation was made at each of its units.
+-- The record is one of this world.
 pub record IsOfWorld (w : World) (r : Record) : Type 0 where
+  -- a replica of the world made the version
   pub maker : (s : Site) × Has s w.sites × IsMaker s r.version
+  -- the unit is one that items have
   pub unit : r.unit < w.units
+  -- all records of the version are of one item
   pub one_item : (q : Record) → Has q w.records → q.version ≡ r.version → q.item ≡ r.item
+  -- the creation of the item was made at each unit
   pub creation : (u : ℕ) → u < w.units → Made w.records r.item u (creation_of r.item)
 
 -- The two sites have different ids and different names.
@@ -158,14 +163,19 @@ abbrev pub AreDistinct : List Site → Type 0
 AreDistinct [] = Unit {0}
 AreDistinct (s ∷ ss) = ((x : Site) → Has x ss → IsOther s x) × AreDistinct ss
 
--- A well-formed world. A world with a replica has units. Ids and names of replicas differ. The records
--- are a history, and each is of the world. Each site is sound, and knows each record of its own replica.
+-- A well-formed world.
 pub record WellFormed (w : World) : Type 0 where
+  -- a world with a replica has units
   pub counted : (s : Site) → Has s w.sites → 1 ≤ w.units
+  -- ids and names of replicas differ
   pub distinct : AreDistinct w.sites
+  -- each record could come next when it was made
   pub history : IsHistory w.records
+  -- each record is of this world
   pub records : (r : Record) → Has r w.records → IsOfWorld w r
+  -- each site is sound
   pub sound : (s : Site) → Has s w.sites → IsSound w s
+  -- each replica knows what it made
   pub own : (r : Record) (s : Site) → Has r w.records → Has s w.sites → s.id ≡ r.version.replica → Has r.version (s.known r.item r.unit)
 
 -- The world before anything happened: no units, no records, no replicas.
