@@ -4,5 +4,8 @@ pub mod Events
 pub mod Members
 pub mod Headline
 pub mod Results
+pub mod Replica
 pub mod Agreement
+pub mod States
 pub mod Examples
+pub mod Snapshots

@@ -2,6 +2,10 @@
 //! represents its part of a world, and the laws of these.
 #![tactic(auto)]
 
+pub use members::{knowledge_is_exact, members_stand, state_stands};
+pub use snapshots::{marks_are_legal, snapshots_stay};
 pub use world::{events_keep, examples, marks_agree, short_run};
 
+mod members;
+mod snapshots;
 mod world;

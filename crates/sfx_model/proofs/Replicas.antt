@@ -1,0 +1,181 @@
+-- What an event does to the states that represent replicas: those of others stay, and that of the replica
+-- that acts changes as the event says.
+use Rattle.std.proofs.Common.{◌≡◌, ◌≢◌, ℕ, Bool, List, [], Option, Some, None, IsSomeAnd, refl, sym, ◌∙◌, subst}
+use Rattle.sfx_ids.specs.declared.cut.Cut.{Cut}
+use Rattle.sfx_ids.specs.declared.item_id.ItemId.{ItemId}
+use Rattle.sfx_ids.specs.declared.version.Version.{Version}
+use Rattle.sfx_model.specs.World.{Content, Record, World, Site, Snapshot, WellFormed, holding}
+use Rattle.sfx_model.specs.Events.{Event, Units, Widen, Join, Make, Clean, Forget, Apply, Learn, UnitMark, site_of, put_site, at_site, after, Legal, new_site, recorded, site_made, site_cleaned, site_forgot, site_applied, site_learned, made, cleaned, forgot, applied, learned, MakeLegal, CleanLegal, ApplyLegal, LearnLegal}
+use Rattle.sfx_model.specs.Members.{Shown, ItemState, Represents, ItemRepresents}
+use Rattle.sfx_model.specs.Results.{EditResult, CleanResult, ForgetResult, EntryResult, LearnResult, Backs, BacksRange, BacksForgotten}
+use Rattle.sfx_model.specs.Replica.{RepresentsReplica, IsOfOthers, IsNewMember}
+use Rattle.sfx_model.proofs.Words.{Step}
+use Rattle.sfx_model.proofs.Sites.{found, put_found, other_found}
+use Rattle.sfx_model.proofs.Making.{make_step}
+use Rattle.sfx_model.proofs.Learning.{clean_step, forget_step, learn_step}
+use Rattle.sfx_model.proofs.Entering.{entry_records, entry_step}
+use Rattle.sfx_model.proofs.Standing.{other_stands}
+use Rattle.sfx_model.proofs.Edits.{edit_stands}
+use Rattle.sfx_model.proofs.Cleanup.{clean_stands, forget_stands}
+use Rattle.sfx_model.proofs.Entries.{apply_stands}
+use Rattle.sfx_model.proofs.Ranges.{learn_stands}
+use Rattle.sfx_model.proofs.Joined.{found_still, found_new, join_others, join_new}
+
+-- What holds after an event at a site holds where it does so at the site that is found.
+pub at_site_holds :
+    (w : World) (id : ℕ) (change : Site → World) (Ok : Site → Type 0) (Holds : World → Type 0)
+    → ((t : Site) → site_of w.sites id ≡ Some t → Ok t → Holds (change t)) → IsSomeAnd (site_of w.sites id) Ok
+    → Holds (at_site w (site_of w.sites id) change)
+at_site_holds w id change Ok Holds each legal = by_site (site_of w.sites id) refl legal
+  where
+    by_site : (o : Option Site) → site_of w.sites id ≡ o → IsSomeAnd o Ok → Holds (at_site w o change)
+    by_site None e ok = absurd ok
+    by_site (Some t) e ok = each t e ok
+
+-- A step of another site.
+step_others :
+    (w : World) (id : ℕ) (old new : Site) (rs : List Record) (r : ℕ) (m : Shown)
+    → site_of w.sites id ≡ Some old → WellFormed w → Step w old new rs → id ≢ r → RepresentsReplica w r m
+    → RepresentsReplica (record w { records = rs; sites = put_site new w.sites }) r m
+step_others w id old new rs r m at ok step other (s, at_s, rep) =
+    let is : new.id ≡ id = step.follows.id ∙ (found w.sites id old at).1 in
+    let there : site_of w.sites new.id ≡ Some old = subst (λ (x : ℕ). site_of w.sites x ≡ Some old) (sym is) at in (
+      s,
+      other_found w.sites new r (λ same. other (sym is ∙ same)) ∙ at_s,
+      other_stands w old new rs s m there ok step
+          (found w.sites r s at_s).0 rep,
+    )
+
+-- The members of other replicas go on representing them.
+pub others_stand :
+    (w : World) (e : Event) (r : ℕ) (m : Shown)
+    → WellFormed w → Legal w e → IsOfOthers e r → RepresentsReplica w r m → RepresentsReplica (after w e) r m
+others_stand w (Units units) r m ok legal other (s, at_s, rep) =
+    let bad : site_of [] r ≡ Some s = subst (λ (ss : List Site). site_of ss r ≡ Some s) legal.empty at_s in
+    absurd (cc)
+others_stand w (Widen more) r m ok legal other stands = absurd other
+others_stand w (Join name id) r m ok legal other (s, at_s, rep) =
+    (s, found_still w.sites (new_site name id) r s at_s, join_others w name id s m rep)
+others_stand w (Make id i v contents) r m ok legal other stands =
+    at_site_holds w id (λ t. made w t i v contents) (λ t. MakeLegal w t i v contents) (λ x. RepresentsReplica x r m)
+    (λ t at ok_t. step_others w id t (site_made t i v (t.known i) contents)
+    (recorded i v (t.known i) contents w.units w.records) r m at ok
+    (make_step w t i v contents ok (found w.sites id t at).0 ok_t) other stands) legal
+others_stand w (Clean id i v lo hi) r m ok legal other stands =
+    at_site_holds w id (λ t. cleaned w t i v lo hi) (λ t. CleanLegal w t i v lo hi) (λ x. RepresentsReplica x r m)
+    (λ t at ok_t. step_others w id t (site_cleaned t i v lo hi) w.records r m at ok
+    (clean_step w t i v lo hi ok (found w.sites id t at).0 ok_t) other stands) legal
+others_stand w (Forget id snapshot lo hi) r m ok legal other stands =
+    at_site_holds w id (λ t. forgot w t snapshot lo hi) (λ t. _) (λ x. RepresentsReplica x r m)
+    (λ t at ok_t. step_others w id t (site_forgot t snapshot lo hi) w.records r m at ok
+    (forget_step w t snapshot lo hi ok (found w.sites id t at).0) other stands) legal
+others_stand w (Apply id snapshot i v marks) r m ok legal other stands =
+    at_site_holds w id (λ t. applied w t snapshot i v marks) (λ t. ApplyLegal w t snapshot i v marks)
+    (λ x. RepresentsReplica x r m)
+    (λ t at ok_t. step_others w id t (site_applied w.units t snapshot i v marks)
+    (entry_records w t snapshot i v marks) r m at ok
+    (entry_step w t snapshot i v marks (record { ok = ok; there = (found w.sites id t at).0; legal = ok_t }))
+    other stands) legal
+others_stand w (Learn id snapshot lo hi left) r m ok legal other stands =
+    at_site_holds w id (λ t. learned w t snapshot lo hi left) (λ t. LearnLegal w t snapshot lo hi left)
+    (λ x. RepresentsReplica x r m)
+    (λ t at ok_t. step_others w id t (site_learned t snapshot lo hi left) w.records r m at ok
+    (learn_step w t snapshot lo hi left ok (found w.sites id t at).0 ok_t) other stands) legal
+
+-- The member of a replica that joined.
+pub joined_stands :
+    (w : World) (name : List ℕ) (id : ℕ) (m : Shown)
+    → WellFormed w → Legal w (Join name id) → IsNewMember id m → RepresentsReplica (after w (Join name id)) id m
+joined_stands w name id m ok legal new =
+    (new_site name id, found_new w.sites (new_site name id) legal.new_id, join_new w name id m ok new)
+
+-- The site of a replica that acted is found again.
+pub own_found :
+    (w : World) (r : ℕ) (old new : Site)
+    → site_of w.sites r ≡ Some old → new.id ≡ old.id → site_of (put_site new w.sites) r ≡ Some new
+own_found w r old new at same =
+    let is : new.id ≡ r = same ∙ (found w.sites r old at).1 in
+    subst (λ (x : ℕ). site_of (put_site new w.sites) x ≡ Some new) is
+    (put_found w.sites new old (subst (λ (x : ℕ). site_of w.sites x ≡ Some old) (sym is) at))
+
+-- The site that is found is the one that the member represents.
+pub one_found :
+    (w : World) (r : ℕ) (m : Shown) (t : Site)
+    → site_of w.sites r ≡ Some t → RepresentsReplica w r m → Represents w t m
+one_found w r m t at (s, at_s, rep) =
+    let same : s ≡ t = let both : Some s ≡ Some t = sym at_s ∙ at in cc in
+    subst (λ (x : Site). Represents w x m) same rep
+
+pub edit_replica :
+    (w : World) (r : ℕ) (i : ItemId) (v : Version) (contents : ℕ → Option Content) (m n : Shown)
+    → WellFormed w → Legal w (Make r i v contents) → RepresentsReplica w r m → EditResult w.units i v contents m n
+    → RepresentsReplica (after w (Make r i v contents)) r n
+edit_replica w r i v contents m n ok legal stands result =
+    at_site_holds w r (λ t. made w t i v contents) (λ t. MakeLegal w t i v contents) (λ x. RepresentsReplica x r n)
+    (λ t at ok_t. (
+      site_made t i v (t.known i) contents,
+      own_found w r t (site_made t i v (t.known i) contents) at
+          refl,
+      edit_stands w t i v contents m n ok (found w.sites r t at).0 ok_t (one_found w r m t at stands) result,
+    ))
+    legal
+
+pub clean_replica :
+    (w : World) (r : ℕ) (i : ItemId) (v : Version) (lo hi : Cut) (m n : Shown)
+    → WellFormed w → Legal w (Clean r i v lo hi) → RepresentsReplica w r m → CleanResult i v lo hi m n
+    → RepresentsReplica (after w (Clean r i v lo hi)) r n
+clean_replica w r i v lo hi m n ok legal stands result =
+    at_site_holds w r (λ t. cleaned w t i v lo hi) (λ t. CleanLegal w t i v lo hi) (λ x. RepresentsReplica x r n)
+    (λ t at ok_t. (
+      site_cleaned t i v lo hi,
+      own_found w r t (site_cleaned t i v lo hi) at refl,
+      clean_stands w t i v
+          lo hi m n ok (found w.sites r t at).0 ok_t (one_found w r m t at stands) result,
+    )) legal
+
+pub forget_replica :
+    (w : World) (r : ℕ) (snapshot : Snapshot) (seen : Cut → ℕ → ℕ) (lo hi : Cut) (m n : Shown)
+    → WellFormed w → Legal w (Forget r snapshot lo hi) → RepresentsReplica w r m
+    → BacksForgotten w snapshot lo hi seen → ForgetResult seen lo hi m n
+    → RepresentsReplica (after w (Forget r snapshot lo hi)) r n
+forget_replica w r snapshot seen lo hi m n ok legal stands backs result =
+    at_site_holds w r (λ t. forgot w t snapshot lo hi) (λ t. _) (λ x. RepresentsReplica x r n)
+    (λ t at ok_t. (
+      site_forgot t snapshot lo hi,
+      own_found w r t (site_forgot t snapshot lo hi) at refl,
+      forget_stands
+          w t snapshot seen lo hi m n ok (found w.sites r t at).0 (one_found w r m t at stands) backs result,
+    )) legal
+
+pub apply_replica :
+    (w : World) (r : ℕ) (snapshot : Snapshot) (i : ItemId) (v : Version) (marks : ℕ → UnitMark)
+    (seen : Option ItemState) (made_with : Cut → ℕ → ℕ → ℕ) (m n : Shown)
+    → WellFormed w → Legal w (Apply r snapshot i v marks) → RepresentsReplica w r m → Backs w snapshot i made_with
+    → ItemRepresents w.units w.records i (holding snapshot i) seen → EntryResult w.units i v marks seen made_with m n
+    → RepresentsReplica (after w (Apply r snapshot i v marks)) r n
+apply_replica w r snapshot i v marks seen made_with m n ok legal stands backs there result =
+    at_site_holds w r (λ t. applied w t snapshot i v marks) (λ t. ApplyLegal w t snapshot i v marks)
+    (λ x. RepresentsReplica x r n)
+    (λ t at ok_t. (
+      site_applied w.units t snapshot i v marks,
+      own_found w r t
+          (site_applied w.units t snapshot i v marks) at refl,
+      apply_stands w t snapshot i v marks seen made_with m n ok
+          (found w.sites r t at).0 ok_t (one_found w r m t at stands) backs there result,
+    )) legal
+
+pub learn_replica :
+    (w : World) (r : ℕ) (snapshot : Snapshot) (lo hi : Cut) (left : ItemId → ℕ → Bool) (made_with : Cut → ℕ → ℕ → ℕ)
+    (m n : Shown)
+    → WellFormed w → Legal w (Learn r snapshot lo hi left) → RepresentsReplica w r m
+    → BacksRange w snapshot lo hi made_with → LearnResult lo hi left made_with m n
+    → RepresentsReplica (after w (Learn r snapshot lo hi left)) r n
+learn_replica w r snapshot lo hi left made_with m n ok legal stands backs result =
+    at_site_holds w r (λ t. learned w t snapshot lo hi left) (λ t. LearnLegal w t snapshot lo hi left)
+    (λ x. RepresentsReplica x r n)
+    (λ t at ok_t. (
+      site_learned t snapshot lo hi left,
+      own_found w r t (site_learned t snapshot lo hi left) at refl,
+      learn_stands w t snapshot lo hi left made_with m n ok (found w.sites r t at).0 ok_t
+          (one_found w r m t at stands) backs result,
+    )) legal

@@ -1,0 +1,27 @@
+use Rattle.sfx_model.proofs.Communities.{event_state, changes_named}
+use Rattle.sfx_model.proofs.Turns.{empty_state, units_state, join_state, create_turn, edit_turn, delete_turn}
+use Rattle.sfx_model.proofs.members.state_stands.Goals as goal
+
+pub returns-clause-empty : goal.returns-clause-empty
+returns-clause-empty c = empty_state
+
+pub returns-clause-units : goal.returns-clause-units
+returns-clause-units c = units_state
+
+pub returns-clause-joined : goal.returns-clause-joined
+returns-clause-joined c = join_state
+
+pub returns-clause-created : goal.returns-clause-created
+returns-clause-created c = create_turn
+
+pub returns-clause-edited : goal.returns-clause-edited
+returns-clause-edited c = edit_turn
+
+pub returns-clause-deleted : goal.returns-clause-deleted
+returns-clause-deleted c = delete_turn
+
+pub returns-clause-acted : goal.returns-clause-acted
+returns-clause-acted c = event_state
+
+pub returns-clause-named : goal.returns-clause-named
+returns-clause-named c name m n d is = changes_named name m n d.units d.members is

@@ -1,0 +1,30 @@
+use Rattle.std.specs.Prelude.{◌≡◌, ◌≢◌, ℕ, [], Some}
+use Rattle.sfx_ids.specs.declared.cut.Cut.{Cut}
+use Rattle.sfx_model.specs.World.{Site, World}
+use Rattle.sfx_model.specs.Events.{Event, Units, Widen, Join, Make, Clean, Forget, Apply, Learn, site_of}
+use Rattle.sfx_model.specs.Members.{Shown, Represents}
+
+-- The replica with this id has a site, and the state represents it.
+abbrev pub RepresentsReplica : World → ℕ → Shown → Type 0
+RepresentsReplica w r m = (s : Site) × (site_of w.sites r ≡ Some s) × Represents w s m
+
+-- The event is not of this replica. A unit count and a replica that joins are of no other replica,
+-- more units are of all.
+abbrev pub IsOfOthers : Event → ℕ → Type 0
+IsOfOthers (Units units) r = Unit {0}
+IsOfOthers (Widen more) r = ⊥
+IsOfOthers (Join name id) r = Unit {0}
+IsOfOthers (Make maker i v contents) r = maker ≢ r
+IsOfOthers (Clean cleaner i v lo hi) r = cleaner ≢ r
+IsOfOthers (Forget forgetter snapshot lo hi) r = forgetter ≢ r
+IsOfOthers (Apply receiver snapshot i v marks) r = receiver ≢ r
+IsOfOthers (Learn learner snapshot lo hi left) r = learner ≢ r
+
+-- The state of a replica that just joined under this id: its clock is 0, and it knows, holds and
+-- has forgotten nothing.
+pub record IsNewMember (id : ℕ) (m : Shown) : Type 0 where
+  pub id_is : m.id ≡ id
+  pub clock : m.clock ≡ 0
+  pub vectors : (place : Cut) (u r : ℕ) → m.vector_at place u r ≡ 0
+  pub forgotten : (place : Cut) (r : ℕ) → m.forgotten place r ≡ 0
+  pub items : m.items ≡ []

@@ -1,0 +1,124 @@
+ghost use Rattle.std.specs.Prelude.{◌≡◌, ℕ, ◌<◌, ◌≤◌, Bool, List, [], length, Option, Some};
+ghost use Rattle.sfx_ids.specs.declared.cut.Cut.{Cut};
+ghost use Rattle.sfx_ids.specs.declared.item_id.ItemId.{ItemId};
+ghost use Rattle.sfx_ids.specs.declared.version.Version.{Version};
+ghost use Rattle.sfx_ids.specs.Tick.{max_tick};
+ghost use Rattle.sfx_item.specs.declared.cell.Cell.{Cell};
+ghost use Rattle.sfx_model.specs.Events.{Apply, Clean, Event, Forget, Join, Learn, Legal, Make, UnitMark, Units, after};
+ghost use Rattle.sfx_model.specs.Headline.{DeletionsAreRespected, EqualKnowledgeMeansEqualItems, FactsHold, KnowledgeIsExact};
+ghost use Rattle.sfx_model.specs.Members.{AreRising, Community, Dead, ItemRepresents, ItemState, Live, Member, Represents, RepresentsWorld, Shown, shown, state_of};
+ghost use Rattle.sfx_model.specs.Replica.{IsNewMember, IsOfOthers, RepresentsReplica};
+ghost use Rattle.sfx_model.specs.Results.{Backs, BacksForgotten, BacksRange, CleanResult, EditResult, EntryResult, ForgetResult, LearnResult};
+ghost use Rattle.sfx_model.specs.Sets.{Has};
+ghost use Rattle.sfx_model.specs.States.{ChangesMember, Continues, IsNewState, IsOf, IsUntaken, Rises, cells_with, created_contents, deleted_contents, edited_contents, member_named, next_created, next_item, next_version, with_added, with_changed, with_item, with_state};
+ghost use Rattle.sfx_model.specs.World.{Content, Site, Snapshot, WellFormed, World, empty_world, holding};
+
+/// The three facts, as a law of every well-formed world, for any number of replicas and units, and
+/// of every state that represents a site of it. Calling this does nothing.
+///
+/// `exact`: knowledge contains a made version of a unit exactly if the replica holds it or one made
+/// knowing it, cleaned deletions included. `same`: replicas of equal knowledge hold equal live
+/// items. `deletions`: each live unit's version was made knowing every deletion of that unit that
+/// the replica knows. `community`: all three, of all members of a state that represents the world.
+pub fn knowledge_is_exact()
+    ensures exact { (w : World) (s : Site) (m : Shown) →
+        WellFormed w → Has s w.sites → Represents w s m → KnowledgeIsExact w m }
+    ensures same { (w : World) (s t : Site) (m n : Shown) →
+        WellFormed w → Has s w.sites → Has t w.sites → Represents w s m → Represents w t n →
+        AreRising m.items → AreRising n.items → EqualKnowledgeMeansEqualItems w m n }
+    ensures deletions { (w : World) (s : Site) (m : Shown) →
+        WellFormed w → Has s w.sites → Represents w s m → DeletionsAreRespected w m }
+    ensures community { (w : World) (c : Community) →
+        WellFormed w → RepresentsWorld w c → FactsHold w c }
+{}
+
+/// What each event does to the states that represent replicas of a well-formed world, as a law. It
+/// does nothing when called.
+///
+/// `others`: an event leaves the states of the other replicas representing them. `joined`: the
+/// empty state of a replica that joins represents it. The other clauses are of the replica that
+/// acts: its state represents it afterwards where it changed as the clause's result says, by a
+/// creation, edit or deletion (`edit`), a cleanup (`cleaned`), forgotten deletions joined
+/// (`forgot`), an applied entry (`entry`) or a learned range (`range`). `seen`, `made_with` and
+/// `forgotten` are what comes with a snapshot: its state of the item, its knowledge and its
+/// forgotten deletions.
+pub fn members_stand()
+    ensures others { (w : World) (event : Event) (r : ℕ) (m : Shown) →
+        WellFormed w → Legal w event → IsOfOthers event r →
+        RepresentsReplica w r m → RepresentsReplica (after w event) r m }
+    ensures joined { (w : World) (name : List ℕ) (id : ℕ) (m : Shown) →
+        WellFormed w → Legal w (Join name id) → IsNewMember id m →
+        RepresentsReplica (after w (Join name id)) id m }
+    ensures edit { (w : World) (r : ℕ) (i : ItemId) (v : Version) (contents : ℕ → Option Content)
+        (m n : Shown) →
+        WellFormed w → Legal w (Make r i v contents) → RepresentsReplica w r m →
+        EditResult w.units i v contents m n →
+        RepresentsReplica (after w (Make r i v contents)) r n }
+    ensures cleaned { (w : World) (r : ℕ) (i : ItemId) (v : Version) (lo hi : Cut) (m n : Shown) →
+        WellFormed w → Legal w (Clean r i v lo hi) → RepresentsReplica w r m →
+        CleanResult i v lo hi m n →
+        RepresentsReplica (after w (Clean r i v lo hi)) r n }
+    ensures forgot { (w : World) (r : ℕ) (s : Snapshot) (forgotten : Cut → ℕ → ℕ) (lo hi : Cut)
+        (m n : Shown) →
+        WellFormed w → Legal w (Forget r s lo hi) → RepresentsReplica w r m →
+        BacksForgotten w s lo hi forgotten → ForgetResult forgotten lo hi m n →
+        RepresentsReplica (after w (Forget r s lo hi)) r n }
+    ensures entry { (w : World) (r : ℕ) (s : Snapshot) (i : ItemId) (v : Version)
+        (marks : ℕ → UnitMark)
+        (seen : Option ItemState) (made_with : Cut → ℕ → ℕ → ℕ) (m n : Shown) →
+        WellFormed w → Legal w (Apply r s i v marks) → RepresentsReplica w r m →
+        Backs w s i made_with → ItemRepresents w.units w.records i (holding s i) seen →
+        EntryResult w.units i v marks seen made_with m n →
+        RepresentsReplica (after w (Apply r s i v marks)) r n }
+    ensures range { (w : World) (r : ℕ) (s : Snapshot) (lo hi : Cut) (left : ItemId → ℕ → Bool)
+        (made_with : Cut → ℕ → ℕ → ℕ) (m n : Shown) →
+        WellFormed w → Legal w (Learn r s lo hi left) → RepresentsReplica w r m →
+        BacksRange w s lo hi made_with → LearnResult lo hi left made_with m n →
+        RepresentsReplica (after w (Learn r s lo hi left)) r n }
+{}
+
+/// What the lines of a script do to a state of all members that represents a well-formed world, as
+/// a law: the line's event may happen, the world after it is well-formed, and the state afterwards
+/// represents it. It does nothing when called.
+///
+/// `empty`: a program starts with no units and no members. `units`: it says the unit count, once.
+/// `joined`: a replica is added behind the others, under a new name and id. `created`, `edited` and
+/// `deleted`: the member m becomes n by its next version, with one more item, with a value written
+/// to one unit of a live item, or with a live item deleted; the other members stay. `acted`: any
+/// event that a replica does at its own site, where its new state is known to represent it.
+/// `named`: what putting a member in the place of the one with its name does.
+pub fn state_stands()
+    ensures empty { RepresentsWorld empty_world (record { units = 0; members = [] }) }
+    ensures units { (w : World) (c : Community) (units : ℕ) →
+        WellFormed w → RepresentsWorld w c → c.units ≡ 0 → c.members ≡ [] → 1 ≤ units →
+        Continues w (Units units) (record { units = units; members = [] }) }
+    ensures joined { (w : World) (c : Community) (name : List ℕ) (id : ℕ) (m : Member) →
+        WellFormed w → RepresentsWorld w c → 1 ≤ c.units → IsUntaken name id c.members →
+        IsNewState id m →
+        Continues w (Join name id) (with_added name m c) }
+    ensures created { (w : World) (c d : Community) (m n : Member) (values : List (List ℕ)) →
+        WellFormed w → RepresentsWorld w c → ChangesMember m n c d → m.clock < max_tick →
+        length values ≡ c.units →
+        Rises m n (with_item (next_created m values) m.items) →
+        Continues w (Make m.id (next_item m) (next_version m) (created_contents values)) d }
+    ensures edited { (w : World) (c d : Community) (m n : Member) (i : ItemId) (unit : ℕ)
+        (value : List ℕ) (cells : List Cell) →
+        WellFormed w → RepresentsWorld w c → ChangesMember m n c d → m.clock < max_tick →
+        unit < c.units →
+        state_of m.items i ≡ Some (Live cells) →
+        Rises m n (with_state i (Live (cells_with m cells unit value)) m.items) →
+        Continues w (Make m.id i (next_version m) (edited_contents unit value)) d }
+    ensures deleted { (w : World) (c d : Community) (m n : Member) (i : ItemId)
+        (cells : List Cell) →
+        WellFormed w → RepresentsWorld w c → ChangesMember m n c d → m.clock < max_tick →
+        state_of m.items i ≡ Some (Live cells) →
+        Rises m n (with_state i (Dead (next_version m)) m.items) →
+        Continues w (Make m.id i (next_version m) (deleted_contents c.units)) d }
+    ensures acted { (w : World) (event : Event) (c d : Community) (m n : Member) →
+        WellFormed w → RepresentsWorld w c → Legal w event → IsOf event m.id →
+        ChangesMember m n c d →
+        AreRising n.items → RepresentsReplica (after w event) m.id (shown n) →
+        RepresentsWorld (after w event) d }
+    ensures named { (name : List ℕ) (m n : Member) (c : Community) →
+        member_named name c.members ≡ Some m → ChangesMember m n c (with_changed name n c) }
+{}
