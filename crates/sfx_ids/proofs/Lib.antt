@@ -9,5 +9,6 @@ pub mod TickTexts
 pub mod TickFronts
 pub mod PairTexts
 pub mod PairFronts
+pub mod IdBytes
 pub mod ItemTexts
 pub mod VersionTexts

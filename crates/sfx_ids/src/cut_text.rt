@@ -1,4 +1,4 @@
-ghost use Rattle.std.specs.Prelude.{◌≡◌, ◌++◌, ◌↔◌, OnOk, OnErr, IfSome};
+ghost use Rattle.std.specs.Prelude.{◌≡◌, ◌++◌, OnOk, OnErr, IfSome};
 ghost use Rattle.sfx_ids.specs.declared.cut.Cut.{Cut};
 ghost use Rattle.sfx_ids.specs.declared.item_id.ItemId.{ItemId};
 ghost use Rattle.sfx_ids.specs.Cut.{IsCut};
@@ -37,7 +37,8 @@ fn write_behind(out: &mut Vec<u8>, word: &[u8], id: &ItemId) -> Result<(), Memor
     written
 }
 
-/// The cut whose text this is. Each cut has one text, that of `write_cut`.
+/// The cut whose text this is, exactly as `write_cut` writes it, or `None` where the text is no
+/// cut's.
 pub fn parse_cut(text: &str) -> Option<Cut>
     ensures some { IfSome result (λ cut. IsCut cut × (text.now ≡ cut_text cut)) }
     ensures only { (cut : Cut) → IsCut cut → text.now ≡ cut_text cut → result ≡ Some cut }

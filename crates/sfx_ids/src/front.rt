@@ -1,4 +1,4 @@
-ghost use Rattle.std.specs.Prelude.{◌≡◌, ℕ, ◌<◌, ◌≤◌, length};
+ghost use Rattle.std.specs.Prelude.{◌≡◌, ◌≤◌};
 ghost use Rattle.sfx_ids.specs.Front.{BeginsTick, BeginsReplica, BeginsPair, IsLongestFront};
 ghost use Rattle.sfx_ids.specs.Steps.{next_tick, fits_place};
 ghost use Rattle.sfx_ids.specs.Text.{IsSeparator};

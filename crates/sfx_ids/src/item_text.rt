@@ -10,16 +10,17 @@ use crate::{ItemId, Memory};
 use std::error::Error;
 use std::fmt;
 
-/// A text that is no item's.
+/// A text that is no item's, and where it goes wrong.
 #[derive(Clone, Copy, Debug, PartialEq, Eq, Hash)]
 pub struct BadItemId {
-    /// The length in bytes of the longest front of the text that begins some item's text.
+    /// The length in bytes of the longest front of the text that begins some item's text. Where
+    /// the whole text does, that is its length.
     pub at: usize,
 }
 
 impl fmt::Display for BadItemId {
     fn fmt<W: fmt::Write>(&self, f: &mut fmt::Formatter<W>) -> fmt::Result {
-        write!(f, "no item has this text, from byte {} on", self.at)
+        write!(f, "no item: the text goes wrong at byte {}", self.at)
     }
 }
 
@@ -35,7 +36,8 @@ pub fn write_item(out: &mut Vec<u8>, id: &ItemId) -> Result<(), Memory>
     write_pair(out, &id.tick, b':', &id.replica)
 }
 
-/// The item whose text this is. Each item has one text, that of `write_item`.
+/// The item whose text this is, exactly as `write_item` writes it. Any other text is refused, with
+/// the place where it goes wrong.
 pub fn parse_item(text: &str) -> Result<ItemId, BadItemId>
     ensures ok { IfOk result (λ id. IsItemId id × (text.now ≡ item_text id)) }
     ensures only { (id : ItemId) → IsItemId id → text.now ≡ item_text id → result ≡ Ok id }

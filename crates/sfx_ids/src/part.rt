@@ -9,7 +9,7 @@ pub trait Part: Drop {
     fn same(&self, other: &Self) -> bool
         ensures { IsTrue result ↔ (self.now ≡ other.now) };
 
-    /// An equal value of its own memory.
+    /// An equal value in memory of its own, or `Memory` where that runs out.
     fn copy(&self, alloc: Global) -> Result<Self, Memory>
         ensures { IfOk result (λ copied. copied ≡ self.now) };
 }

@@ -19,12 +19,14 @@ impl Model for ReplicaId {
 }
 
 impl ReplicaId {
+    /// The replica with this number.
     pub fn new(number: u128) -> Self
         ensures { result ≡ number }
     {
         ReplicaId { number }
     }
 
+    /// The 128 bits as a number, the first byte of the UUID highest.
     pub fn number(&self) -> u128
         ensures value { result ≡ self.now }
         ensures fits { self.now < 2 ^ 128 }

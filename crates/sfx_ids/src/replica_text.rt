@@ -1,4 +1,4 @@
-ghost use Rattle.std.specs.Prelude.{◌≡◌, ℕ, ◌<◌, ◌^◌, ◌++◌, OnOk, OnErr, IfSome, IsTrue, ◌↔◌, option_map};
+ghost use Rattle.std.specs.Prelude.{◌≡◌, ℕ, ◌<◌, ◌^◌, ◌++◌, OnOk, OnErr, IfSome, option_map};
 ghost use Rattle.std.specs.Int.{from_be_bytes, w128};
 ghost use Rattle.uuid.specs.Text.{parsed};
 ghost use Rattle.sfx_ids.specs.Text.{replica_text};
@@ -21,7 +21,7 @@ pub fn write_replica(out: &mut Vec<u8>, id: &ReplicaId) -> Result<(), Memory>
 }
 
 /// The replica with this text in any of the four forms of a UUID: hyphenated, simple, in braces or
-/// behind `urn:uuid:`, with letters of either case.
+/// behind `urn:uuid:`, with letters of either case; or `None` where it is none of these.
 pub fn parse_replica(text: &str) -> Option<ReplicaId>
     ensures { result ≡ option_map (from_be_bytes w128) (parsed text.now) }
 {
@@ -31,7 +31,8 @@ pub fn parse_replica(text: &str) -> Option<ReplicaId>
     }
 }
 
-/// The replica with this text: the 36 lower-case hyphenated characters alone.
+/// The replica whose text this is: the 36 lower-case hyphenated characters alone, exactly as
+/// `write_replica` writes them; or `None`.
 pub fn parse_replica_exact(text: &str) -> Option<ReplicaId>
     ensures some { IfSome result (λ id. (id < 2 ^ 128) × (text.now ≡ replica_text id)) }
     ensures only { (id : ℕ) → id < 2 ^ 128 → text.now ≡ replica_text id → result ≡ Some id }

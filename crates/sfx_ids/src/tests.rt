@@ -100,6 +100,8 @@ fn orders_cuts(rt: HostRuntime) {
     assert!(rt; cuts.is_sorted());
     assert_eq!(rt; parse_cut("at"), None);
     let one = item(&rt, 1, 10);
-    assert!(rt; in_range(&one, &Cut::At(one), &Cut::After(one)));
-    assert!(rt; !in_range(&one, &Cut::Start, &Cut::At(one)));
+    let place = Cut::At(one);
+    let gap = Cut::After(one);
+    assert!(rt; in_range(&one, &place, &gap));
+    assert!(rt; !in_range(&one, &Cut::Start, &place));
 }

@@ -35,6 +35,7 @@ impl Tick {
         }
     }
 
+    /// The tick as a number.
     pub fn get(&self) -> u64
         ensures value { result ≡ self.now }
         ensures valid { IsTick self.now }

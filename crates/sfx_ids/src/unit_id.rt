@@ -31,6 +31,7 @@ impl<const U: usize> UnitId<U> {
         }
     }
 
+    /// The unit's number, from 0 on.
     pub fn get(&self) -> usize
         ensures value { result ≡ self.now }
         ensures valid { self.now < U }

@@ -10,16 +10,17 @@ use crate::{Memory, Version};
 use std::error::Error;
 use std::fmt;
 
-/// A text that is no version's.
+/// A text that is no version's, and where it goes wrong.
 #[derive(Clone, Copy, Debug, PartialEq, Eq, Hash)]
 pub struct BadVersion {
-    /// The length in bytes of the longest front of the text that begins some version's text.
+    /// The length in bytes of the longest front of the text that begins some version's text. Where
+    /// the whole text does, that is its length.
     pub at: usize,
 }
 
 impl fmt::Display for BadVersion {
     fn fmt<W: fmt::Write>(&self, f: &mut fmt::Formatter<W>) -> fmt::Result {
-        write!(f, "no version has this text, from byte {} on", self.at)
+        write!(f, "no version: the text goes wrong at byte {}", self.at)
     }
 }
 
@@ -35,7 +36,8 @@ pub fn write_version(out: &mut Vec<u8>, version: &Version) -> Result<(), Memory>
     write_pair(out, &version.tick, b'@', &version.replica)
 }
 
-/// The version whose text this is. Each version has one text, that of `write_version`.
+/// The version whose text this is, exactly as `write_version` writes it. Any other text is refused, with
+/// the place where it goes wrong.
 pub fn parse_version(text: &str) -> Result<Version, BadVersion>
     ensures ok { IfOk result (λ version. IsVersion version × (text.now ≡ version_text version)) }
     ensures only { (version : Version) → IsVersion version → text.now ≡ version_text version → result ≡ Ok version }
