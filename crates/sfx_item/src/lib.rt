@@ -11,4 +11,6 @@ mod cell;
 mod item;
 mod row;
 mod state;
+#[cfg(test)]
+mod tests;
 mod value;

@@ -7,7 +7,7 @@ use Rattle.sfx_ids.specs.declared.version.Version.{Version}
 use Rattle.sfx_item.specs.declared.cell.Cell.{Cell}
 use Rattle.sfx_model.specs.Sets.{Has}
 use Rattle.sfx_model.specs.World.{Record, Content, Written, Deleted, World, Site, Holding, WellFormed, holding, IsDeletion, IsLatest}
-use Rattle.sfx_model.specs.Events.{Keeps, Takes, Stamps, Skips, Drops, same_item, recorded, known_with, site_made, made, MakeLegal}
+use Rattle.sfx_model.specs.Events.{Stays, Taken, Stamped, Left, Gone, same_item, recorded, known_with, site_made, made, MakeLegal}
 use Rattle.sfx_model.specs.Members.{Shown, ItemState, Live, Dead, Represents, ItemRepresents, IsLatestCell, state_of, clock_of}
 use Rattle.sfx_model.specs.Results.{StateResult, Unchanged, AsSeen, Removed, DeadNow, LiveNow, CellResult, EditResult, mark_of, cell_at}
 use Rattle.sfx_model.proofs.Words.{Grows, Moves}
@@ -40,15 +40,15 @@ cell_made rs qs i v knew contents units u c before (Some (Written bytes)) g all 
 }
 
 -- No unit of an edit is skipped, taken or dropped.
-not_edited : (o : Option Content) → (mark_of o ≢ Takes) × (mark_of o ≢ Skips) × (mark_of o ≢ Drops)
+not_edited : (o : Option Content) → (mark_of o ≢ Taken) × (mark_of o ≢ Left) × (mark_of o ≢ Gone)
 not_edited None = (λ e. cc, λ e. cc, λ e. cc)
 not_edited (Some c) = (λ e. cc, λ e. cc, λ e. cc)
 
-kept_mark : (o : Option Content) → mark_of o ≡ Keeps → o ≡ None
+kept_mark : (o : Option Content) → mark_of o ≡ Stays → o ≡ None
 kept_mark None e = refl
 kept_mark (Some c) e = absurd (cc)
 
-stamped_mark : (o : Option Content) (c : Content) → mark_of o ≡ Stamps c → o ≡ Some c
+stamped_mark : (o : Option Content) (c : Content) → mark_of o ≡ Stamped c → o ≡ Some c
 stamped_mark None c e = absurd (cc)
 stamped_mark (Some d) c e = let same : d ≡ c = cc in cc
 

@@ -6,7 +6,7 @@ use Rattle.sfx_ids.specs.declared.version.Version.{Version}
 use Rattle.sfx_ids.specs.ItemId.{creation_of}
 use Rattle.sfx_model.specs.Sets.{Has, IsPart}
 use Rattle.sfx_model.specs.World.{Content, Deleted, Record, Site, Snapshot, World, Holding, holding, IsLatest, HasLiveLatest, IsLive, IsDead, IsClosed, IsSoundItem, WellFormed}
-use Rattle.sfx_model.specs.Events.{UnitMark, Keeps, Takes, Stamps, Skips, Drops, site_of, recorded, known_with, known_by, content_of, brings, is_dropped, present_after, clock_after, knew_by, site_applied, applied, StampLegal, UnitLegal, AllMarked, AreMixed, AllKeep, AllTake, AllSkip, AllDrop, AllDelete, AllWrite, Mixed, ApplyLegal}
+use Rattle.sfx_model.specs.Events.{UnitMark, Stays, Taken, Stamped, Left, Gone, site_of, recorded, known_with, known_by, content_of, brings, is_dropped, present_after, clock_after, knew_by, site_applied, applied, StampLegal, UnitLegal, AllMarked, AreMixed, AllStay, AllTaken, AllLeft, AllGone, AllDelete, AllWrite, Mixed, ApplyLegal}
 use Rattle.sfx_model.proofs.Words.{AreSame, Grows, Step}
 use Rattle.sfx_model.proofs.Sets.{same_self}
 use Rattle.sfx_model.proofs.Frame.{grows_self, live_latest_stays, item_stays, above}
@@ -37,7 +37,7 @@ pub record Entry (w : World) (s : Site) (snapshot : Snapshot) (i : ItemId) (v : 
 -- the mark of a stamped unit is legal, so the version is fresh
 pub stamp_of :
     (w : World) (s : Site) (snapshot : Snapshot) (i : ItemId) (v : Version) (marks : ℕ → UnitMark) (u : ℕ) (c : Content)
-    → Entry w s snapshot i v marks → u < w.units → marks u ≡ Stamps c → StampLegal s snapshot i v
+    → Entry w s snapshot i v marks → u < w.units → marks u ≡ Stamped c → StampLegal s snapshot i v
 stamp_of w s snapshot i v marks u c e small is =
     subst (λ (m : UnitMark). UnitLegal w s snapshot i v u m) is (e.legal.units u small)
 
@@ -133,7 +133,7 @@ creation_here w s snapshot i v marks u has =
 
 pub creation_seen :
     (w : World) (s : Site) (snapshot : Snapshot) (i : ItemId) (v : Version) (marks : ℕ → UnitMark) (u : ℕ)
-    → marks u ≢ Skips → Has (creation_of i) (snapshot.known i u)
+    → marks u ≢ Left → Has (creation_of i) (snapshot.known i u)
     → Has (creation_of i) ((entry_holding w s snapshot i v marks).known u)
 creation_seen w s snapshot i v marks u learns has =
     has_with v (creation_of i) (knew_by marks snapshot s i u) (content_of (marks u))
@@ -143,7 +143,7 @@ creation_seen w s snapshot i v marks u learns has =
 pub stamped_item :
     (w : World) (s : Site) (snapshot : Snapshot) (i : ItemId) (v : Version) (marks : ℕ → UnitMark)
     → Entry w s snapshot i v marks
-    → ((u : ℕ) → u < w.units → (c : Content) × (marks u ≡ Stamps c))
+    → ((u : ℕ) → u < w.units → (c : Content) × (marks u ≡ Stamped c))
     → IsLive w.units (entry_records w s snapshot i v marks) i (entry_holding w s snapshot i v marks).known
     ⊎ IsDead w.units (entry_records w s snapshot i v marks) i (entry_holding w s snapshot i v marks).known
     → IsSoundItem w.units (entry_records w s snapshot i v marks) i (entry_holding w s snapshot i v marks)
@@ -191,7 +191,7 @@ mixed_item w s snapshot i v marks e mixed = record {
   ];
 }
   where
-    skips_not : (u : ℕ) → marks u ≡ Skips → brings (marks u) ≡ true → ⊥
+    skips_not : (u : ℕ) → marks u ≡ Left → brings (marks u) ≡ true → ⊥
     skips_not u skips is = let bad : false ≡ true = subst (λ (m : UnitMark). brings m ≡ true) skips is in cc
 
     here_live : (u : ℕ) → u < w.units → brings (marks u) ≡ false → HasLiveLatest w.records i u (s.known i u)
@@ -206,26 +206,26 @@ mixed_item w s snapshot i v marks e mixed = record {
     before :
         (u : ℕ) → u < w.units → (m : UnitMark) → marks u ≡ m → content_of (marks u) ≡ None
         → HasLiveLatest w.records i u (knew_by marks snapshot s i u)
-    before u small Keeps is none =
+    before u small Stays is none =
         live_latest_stays w.records w.records i u (s.known i u) (knew_by marks snapshot s i u) (grows_self w.records)
-        (knows_here (marks u) (snapshot.known i u) (s.known i u) (legal u small Keeps is)) ((e.ok.sound s e.there i).cells u)
+        (knows_here (marks u) (snapshot.known i u) (s.known i u) (legal u small Stays is)) ((e.ok.sound s e.there i).cells u)
         (here_live u small (rw is refl))
-    before u small Takes is none =
+    before u small Taken is none =
         live_latest_stays w.records w.records i u (snapshot.known i u) (knew_by marks snapshot s i u) (grows_self w.records)
-        (knows_there (marks u) (snapshot.known i u) (s.known i u) (λ skips. cc) (legal u small Takes is).known)
+        (knows_there (marks u) (snapshot.known i u) (s.known i u) (λ skips. cc) (legal u small Taken is).known)
         ((e.legal.sound i).cells u) (mixed.there.live u small)
-    before u small (Stamps c) is none = absurd (let bad : Some c ≡ None = subst (λ (m : UnitMark). content_of m ≡ None) is none in cc)
-    before u small Skips is none =
+    before u small (Stamped c) is none = absurd (let bad : Some c ≡ None = subst (λ (m : UnitMark). content_of m ≡ None) is none in cc)
+    before u small Left is none =
         subst (λ (m : UnitMark). HasLiveLatest w.records i u (known_by m (snapshot.known i u) (s.known i u))) (sym is)
         (here_live u small (rw is refl))
-    before u small Drops is none = absurd (mixed.whole u small is)
+    before u small Gone is none = absurd (mixed.whole u small is)
 
     drops_not : (u : ℕ) → u < w.units → (m : UnitMark) → marks u ≡ m → is_dropped m ≡ false
-    drops_not u small Keeps is = refl
-    drops_not u small Takes is = refl
-    drops_not u small (Stamps c) is = refl
-    drops_not u small Skips is = refl
-    drops_not u small Drops is = absurd (mixed.whole u small is)
+    drops_not u small Stays is = refl
+    drops_not u small Taken is = refl
+    drops_not u small (Stamped c) is = refl
+    drops_not u small Left is = refl
+    drops_not u small Gone is = absurd (mixed.whole u small is)
 
     present : present_after marks w.units (s.present i) ≡ true
     present = elim mixed.here [
@@ -241,31 +241,31 @@ pub entry_item :
     → Entry w s snapshot i v marks
     → IsSoundItem w.units (entry_records w s snapshot i v marks) i (entry_holding w s snapshot i v marks)
 entry_item w s snapshot i v marks e = elim e.legal.joint [
-  | AllKeep all ↦
+  | AllStay all ↦
       as_holding w s snapshot i v marks (s.known i) (s.present i) e (e.ok.sound s e.there i) (λ u small. rw (all u small) refl)
-      (λ u small. knows_here (marks u) (snapshot.known i u) (s.known i u) (legal u small Keeps (all u small)))
+      (λ u small. knows_here (marks u) (snapshot.known i u) (s.known i u) (legal u small Stays (all u small)))
       (λ u big. knows_here (marks u) (snapshot.known i u) (s.known i u) (none_above w s snapshot i v marks u e big))
       (sym (present_kept marks w.units (s.present i) (λ u small. rw (all u small) refl) (λ u small. rw (all u small) refl)))
-  | AllTake all ↦
+  | AllTaken all ↦
       let some = e.ok.counted s e.there in
       as_holding w s snapshot i v marks (snapshot.known i) true e
-      (present_sound w.units w.records i (holding snapshot i) (s.forgotten (At i)) (legal 0 some Takes (all 0 some)).present
+      (present_sound w.units w.records i (holding snapshot i) (s.forgotten (At i)) (legal 0 some Taken (all 0 some)).present
       (e.legal.sound i))
       (λ u small. rw (all u small) refl)
       (λ u small. knows_there (marks u) (snapshot.known i u) (s.known i u) (λ skips. let is = all u small in cc)
-      (legal u small Takes (all u small)).known)
+      (legal u small Taken (all u small)).known)
       (λ u big. beyond u big) (sym (present_brought marks w.units 0 (s.present i) some (rw (all 0 some) refl)))
-  | AllSkip all ↦
+  | AllLeft all ↦
       as_holding w s snapshot i v marks (s.known i) (s.present i) e (e.ok.sound s e.there i) (λ u small. rw (all u small) refl)
       (λ u small. rw (all u small) (same_self (s.known i u)))
       (λ u big. knows_here (marks u) (snapshot.known i u) (s.known i u) (none_above w s snapshot i v marks u e big))
       (sym (present_kept marks w.units (s.present i) (λ u small. rw (all u small) refl) (λ u small. rw (all u small) refl)))
-  | AllDrop all ↦
+  | AllGone all ↦
       let some = e.ok.counted s e.there in
       as_holding w s snapshot i v marks (snapshot.known i) false e (dropped all)
       (λ u small. rw (all u small) refl)
       (λ u small. knows_there (marks u) (snapshot.known i u) (s.known i u) (λ skips. let is = all u small in cc)
-      (legal u small Drops (all u small)).known)
+      (legal u small Gone (all u small)).known)
       (λ u big. beyond u big) (sym (present_dropped marks w.units (s.present i) some all))
   | AllDelete all ↦
       stamped_item w s snapshot i v marks e (λ u small. let stamp = all u small in (stamp.0, stamp.1))
@@ -306,13 +306,13 @@ entry_item w s snapshot i v marks e = elim e.legal.joint [
         }
 
     dropped :
-        AllMarked w.units marks Drops
+        AllMarked w.units marks Gone
         → IsSoundItem w.units w.records i (record { known = snapshot.known i; present = false; forgotten = s.forgotten (At i) })
     dropped all = record {
       cells = (e.legal.sound i).cells;
       held = λ is. absurd (cc);
       cleaned = λ is u x has. elim (cases_lt u w.units) [
-        | inl small ↦ (legal u small Drops (all u small)).forgotten x has
+        | inl small ↦ (legal u small Gone (all u small)).forgotten x has
         | inr big ↦ absurd (above w i u (snapshot.known i u) x e.ok ((e.legal.sound i).cells u) big has)
       ];
       creation = (e.legal.sound i).creation;

@@ -8,7 +8,7 @@ use Rattle.sfx_ids.specs.declared.version.Version.{Version}
 use Rattle.sfx_item.specs.declared.cell.Cell.{Cell}
 use Rattle.sfx_model.specs.Sets.{Has, IsPart}
 use Rattle.sfx_model.specs.World.{Content, Written, Deleted, World, Site, Snapshot, Holding, WellFormed, holding, Made, IsLatest}
-use Rattle.sfx_model.specs.Events.{UnitMark, Keeps, Takes, Stamps, Skips, Drops, same_item, known_with, known_by, knew_by, content_of, brings, is_dropped, present_after, clock_after, site_applied, applied, UnitLegal, ApplyLegal}
+use Rattle.sfx_model.specs.Events.{UnitMark, Stays, Taken, Stamped, Left, Gone, same_item, known_with, known_by, knew_by, content_of, brings, is_dropped, present_after, clock_after, site_applied, applied, UnitLegal, ApplyLegal}
 use Rattle.sfx_model.specs.Members.{Shown, ItemState, Represents, ItemRepresents, IsLatestCell, state_of, clock_of}
 use Rattle.sfx_model.specs.Results.{Backs, EntryResult, StateResult, Unchanged, AsSeen, Removed, DeadNow, LiveNow, CellResult, CellsResult, joined_by, joined_at, cell_at}
 use Rattle.sfx_model.proofs.Words.{AreSame, Grows}
@@ -26,13 +26,13 @@ use Rattle.sfx_model.proofs.Entering.{Entry, entry_records, entry_holding, entry
 -- Knowledge of a unit by its mark is exact, for a version of another replica than the one that stamps.
 unit_exact :
     (mark : UnitMark) (v x : Version) (a b : ℕ) (here seen : List Version)
-    → ((c : Content) → mark ≡ Stamps c → x ≢ v) → ((x.tick ≤ a) ↔ Has x here) → ((x.tick ≤ b) ↔ Has x seen)
+    → ((c : Content) → mark ≡ Stamped c → x ≢ v) → ((x.tick ≤ a) ↔ Has x here) → ((x.tick ≤ b) ↔ Has x seen)
     → (x.tick ≤ joined_by mark a b) ↔ Has x (known_with v (known_by mark seen here) (content_of mark))
-unit_exact Keeps v x a b here seen other exact_a exact_b = exact_joined x a b here seen exact_a exact_b
-unit_exact Takes v x a b here seen other exact_a exact_b = exact_joined x a b here seen exact_a exact_b
-unit_exact Skips v x a b here seen other exact_a exact_b = exact_a
-unit_exact Drops v x a b here seen other exact_a exact_b = exact_joined x a b here seen exact_a exact_b
-unit_exact (Stamps c) v x a b here seen other exact_a exact_b =
+unit_exact Stays v x a b here seen other exact_a exact_b = exact_joined x a b here seen exact_a exact_b
+unit_exact Taken v x a b here seen other exact_a exact_b = exact_joined x a b here seen exact_a exact_b
+unit_exact Left v x a b here seen other exact_a exact_b = exact_a
+unit_exact Gone v x a b here seen other exact_a exact_b = exact_joined x a b here seen exact_a exact_b
+unit_exact (Stamped c) v x a b here seen other exact_a exact_b =
     let joined = exact_joined x a b here seen exact_a exact_b in (
       (λ h. inr (joined.0 h)),
       (λ h. elim h [ inl same ↦ absurd (other c refl same) | inr there ↦ joined.1 there ]),
@@ -40,16 +40,16 @@ unit_exact (Stamps c) v x a b here seen other exact_a exact_b =
 
 -- Joined ticks stay within the clock where both do.
 unit_bounded : (mark : UnitMark) (a b clock : ℕ) → a ≤ clock → b ≤ clock → joined_by mark a b ≤ clock
-unit_bounded Keeps a b clock low other = omega arith
-unit_bounded Takes a b clock low other = omega arith
-unit_bounded (Stamps c) a b clock low other = omega arith
-unit_bounded Skips a b clock low other = low
-unit_bounded Drops a b clock low other = omega arith
+unit_bounded Stays a b clock low other = omega arith
+unit_bounded Taken a b clock low other = omega arith
+unit_bounded (Stamped c) a b clock low other = omega arith
+unit_bounded Left a b clock low other = low
+unit_bounded Gone a b clock low other = omega arith
 
 -- A stamp's version is of the replica that applies the entry.
 stamp_replica :
     (w : World) (s : Site) (snapshot : Snapshot) (i : ItemId) (v : Version) (u : ℕ) (mark : UnitMark) (c : Content)
-    → mark ≡ Stamps c → UnitLegal w s snapshot i v u mark → v.replica ≡ s.id
+    → mark ≡ Stamped c → UnitLegal w s snapshot i v u mark → v.replica ≡ s.id
 stamp_replica w s snapshot i v u mark c is legal =
     (subst (λ (m : UnitMark). UnitLegal w s snapshot i v u m) is legal).fresh.replica
 
@@ -120,22 +120,22 @@ cell_applied :
     → CellResult v mark (cell_at before u) (cell_at seen u) c
     → IsLatestCell (entry_records w s snapshot i v marks) i u
     (known_with v (known_by mark (snapshot.known i u) (s.known i u)) (content_of mark)) c
-cell_applied w s snapshot i v marks before seen u c Keeps g small is legal held there result =
+cell_applied w s snapshot i v marks before seen u c Stays g small is legal held there result =
     cell_same w.records (entry_records w s snapshot i v marks) i u (s.known i u)
-    (known_by Keeps (snapshot.known i u) (s.known i u)) c g
-    (knows_here Keeps (snapshot.known i u) (s.known i u) legal) (held_cell w s i before u c held result)
-cell_applied w s snapshot i v marks before seen u c Takes g small is legal held there result =
+    (known_by Stays (snapshot.known i u) (s.known i u)) c g
+    (knows_here Stays (snapshot.known i u) (s.known i u) legal) (held_cell w s i before u c held result)
+cell_applied w s snapshot i v marks before seen u c Taken g small is legal held there result =
     cell_same w.records (entry_records w s snapshot i v marks) i u (snapshot.known i u)
-    (known_by Takes (snapshot.known i u) (s.known i u)) c g
-    (knows_there Takes (snapshot.known i u) (s.known i u) (λ e. cc) legal.known)
+    (known_by Taken (snapshot.known i u) (s.known i u)) c g
+    (knows_there Taken (snapshot.known i u) (s.known i u) (λ e. cc) legal.known)
     (held_cell w snapshot i seen u c there result)
-cell_applied w s snapshot i v marks before seen u c Skips g small is legal held there result =
+cell_applied w s snapshot i v marks before seen u c Left g small is legal held there result =
     cell_same w.records (entry_records w s snapshot i v marks) i u (s.known i u) (s.known i u) c g
     (same_self (s.known i u)) (held_cell w s i before u c held result)
-cell_applied w s snapshot i v marks before seen u c Drops g small is legal held there result = absurd result
-cell_applied w s snapshot i v marks before seen u c (Stamps Deleted) g small is legal held there result =
+cell_applied w s snapshot i v marks before seen u c Gone g small is legal held there result = absurd result
+cell_applied w s snapshot i v marks before seen u c (Stamped Deleted) g small is legal held there result =
     absurd result
-cell_applied w s snapshot i v marks before seen u c (Stamps (Written bytes)) g small is legal held there result =
+cell_applied w s snapshot i v marks before seen u c (Stamped (Written bytes)) g small is legal held there result =
     let content : content_of (marks u) ≡ Some (Written bytes) = rw is refl in
     let knew : knew_by marks snapshot s i u ≡ s.known i u ++ snapshot.known i u = rw is refl in
     record {
@@ -164,11 +164,11 @@ present_live w s i v marks before seen cells counted held result =
     by_mark (marks 0) c refl (result.each 0 c here)
   where
     not_dropped : (mark : UnitMark) (c : Cell) (o p : Option Cell) → CellResult v mark o p c → is_dropped mark ≡ false
-    not_dropped Keeps c o p is = refl
-    not_dropped Takes c o p is = refl
-    not_dropped (Stamps content) c o p is = refl
-    not_dropped Skips c o p is = refl
-    not_dropped Drops c o p is = absurd is
+    not_dropped Stays c o p is = refl
+    not_dropped Taken c o p is = refl
+    not_dropped (Stamped content) c o p is = refl
+    not_dropped Left c o p is = refl
+    not_dropped Gone c o p is = absurd is
 
     none_dropped : (u : ℕ) → u < w.units → is_dropped (marks u) ≡ false
     none_dropped u small =
@@ -185,11 +185,11 @@ present_live w s i v marks before seen cells counted held result =
         (mark : UnitMark) (c : Cell)
         → marks 0 ≡ mark → CellResult v mark (cell_at before 0) (cell_at seen 0) c
         → present_after marks w.units (s.present i) ≡ true
-    by_mark Keeps c e is = present_stays marks w.units (s.present i) (is_held before c held is) none_dropped
-    by_mark Skips c e is = present_stays marks w.units (s.present i) (is_held before c held is) none_dropped
-    by_mark Takes c e is = present_brought marks w.units 0 (s.present i) counted (rw e refl)
-    by_mark (Stamps content) c e is = present_brought marks w.units 0 (s.present i) counted (rw e refl)
-    by_mark Drops c e is = absurd is
+    by_mark Stays c e is = present_stays marks w.units (s.present i) (is_held before c held is) none_dropped
+    by_mark Left c e is = present_stays marks w.units (s.present i) (is_held before c held is) none_dropped
+    by_mark Taken c e is = present_brought marks w.units 0 (s.present i) counted (rw e refl)
+    by_mark (Stamped content) c e is = present_brought marks w.units 0 (s.present i) counted (rw e refl)
+    by_mark Gone c e is = absurd is
 
 -- The item after an entry is at the member as the site has it.
 item_applied :
@@ -233,14 +233,14 @@ item_applied w s snapshot i v marks before seen after e held there (AsSeen takes
     (λ u small. same_with v (snapshot.known i u) (knew_by marks snapshot s i u) (content_of (marks u))
     (rw (takes u small) refl)
     (knows_there (marks u) (snapshot.known i u) (s.known i u)
-    (λ skips. let bad : Takes ≡ Skips = sym (takes u small) ∙ skips in cc) (legal u small).known))
+    (λ skips. let bad : Taken ≡ Left = sym (takes u small) ∙ skips in cc) (legal u small).known))
     (present_brought marks w.units 0 (s.present i) counted (rw (takes 0 counted) refl) ∙ sym
     (legal 0 counted).present) there)
   where
     counted : 1 ≤ w.units
     counted = e.ok.counted s e.there
 
-    legal : (u : ℕ) → u < w.units → UnitLegal w s snapshot i v u Takes
+    legal : (u : ℕ) → u < w.units → UnitLegal w s snapshot i v u Taken
     legal u small = subst (λ (m : UnitMark). UnitLegal w s snapshot i v u m) (takes u small) (e.legal.units u small)
 item_applied w s snapshot i v marks before seen after e held there (Removed drops is) =
     rw is (present_dropped marks w.units (s.present i) (e.ok.counted s e.there) drops)

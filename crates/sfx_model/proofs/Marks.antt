@@ -4,7 +4,7 @@ use Rattle.sfx_ids.specs.declared.item_id.ItemId.{ItemId}
 use Rattle.sfx_ids.specs.declared.version.Version.{Version}
 use Rattle.sfx_model.specs.Sets.{IsPart}
 use Rattle.sfx_model.specs.World.{Content, Record, IsClosed}
-use Rattle.sfx_model.specs.Events.{UnitMark, Keeps, Takes, Stamps, Skips, Drops, known_by, content_of, is_stamped, brings, is_dropped, some_unit, present_after, clock_after, AllMarked}
+use Rattle.sfx_model.specs.Events.{UnitMark, Stays, Taken, Stamped, Left, Gone, known_by, content_of, is_stamped, brings, is_dropped, some_unit, present_after, clock_after, AllMarked}
 use Rattle.sfx_model.proofs.Words.{AreSame}
 use Rattle.sfx_model.proofs.Sets.{has_left, has_right, same_self, joined_left, joined_right}
 use Rattle.sfx_model.proofs.Frame.{closed_union}
@@ -39,7 +39,7 @@ one_of test (suc n) e = elim (or_cases (test n) (some_unit test n) e) [
 pub present_brought : (marks : ℕ → UnitMark) (units u : ℕ) (before : Bool) → u < units → brings (marks u) ≡ true → present_after marks units before ≡ true
 present_brought marks units u before small is = rw (some_of (λ x. brings (marks x)) units u small is) refl
 
-pub present_dropped : (marks : ℕ → UnitMark) (units : ℕ) (before : Bool) → 1 ≤ units → AllMarked units marks Drops → present_after marks units before ≡ false
+pub present_dropped : (marks : ℕ → UnitMark) (units : ℕ) (before : Bool) → 1 ≤ units → AllMarked units marks Gone → present_after marks units before ≡ false
 present_dropped marks units before some all =
     rw (
       none_of (λ x. brings (marks x)) units (λ u small. rw (all u small) refl),
@@ -79,55 +79,55 @@ clock_up marks units tick before up = by_test (some_unit (λ x. is_stamped (mark
 
 -- what a mark says
 
-pub stamps_content : (m : UnitMark) (c : Content) → content_of m ≡ Some c → m ≡ Stamps c
-stamps_content Keeps c e = absurd (cc)
-stamps_content Takes c e = absurd (cc)
-stamps_content (Stamps d) c e = let same : d ≡ c = cc in ap {B = UnitMark} Stamps same
-stamps_content Skips c e = absurd (cc)
-stamps_content Drops c e = absurd (cc)
+pub stamps_content : (m : UnitMark) (c : Content) → content_of m ≡ Some c → m ≡ Stamped c
+stamps_content Stays c e = absurd (cc)
+stamps_content Taken c e = absurd (cc)
+stamps_content (Stamped d) c e = let same : d ≡ c = cc in ap {B = UnitMark} Stamped same
+stamps_content Left c e = absurd (cc)
+stamps_content Gone c e = absurd (cc)
 
-pub stamped_content : (m : UnitMark) → is_stamped m ≡ true → (c : Content) × (m ≡ Stamps c)
-stamped_content Keeps e = absurd (cc)
-stamped_content Takes e = absurd (cc)
-stamped_content (Stamps d) e = (d, refl)
-stamped_content Skips e = absurd (cc)
-stamped_content Drops e = absurd (cc)
+pub stamped_content : (m : UnitMark) → is_stamped m ≡ true → (c : Content) × (m ≡ Stamped c)
+stamped_content Stays e = absurd (cc)
+stamped_content Taken e = absurd (cc)
+stamped_content (Stamped d) e = (d, refl)
+stamped_content Left e = absurd (cc)
+stamped_content Gone e = absurd (cc)
 
 pub knows_more : (m : UnitMark) (seen here : List Version) → IsPart here (known_by m seen here)
-knows_more Keeps seen here = λ x has. has_left x here seen has
-knows_more Takes seen here = λ x has. has_left x here seen has
-knows_more (Stamps c) seen here = λ x has. has_left x here seen has
-knows_more Skips seen here = λ x has. has
-knows_more Drops seen here = λ x has. has_left x here seen has
+knows_more Stays seen here = λ x has. has_left x here seen has
+knows_more Taken seen here = λ x has. has_left x here seen has
+knows_more (Stamped c) seen here = λ x has. has_left x here seen has
+knows_more Left seen here = λ x has. has
+knows_more Gone seen here = λ x has. has_left x here seen has
 
-pub knows_seen : (m : UnitMark) (seen here : List Version) → m ≢ Skips → IsPart seen (known_by m seen here)
-knows_seen Keeps seen here learns = λ x has. has_right x here seen has
-knows_seen Takes seen here learns = λ x has. has_right x here seen has
-knows_seen (Stamps c) seen here learns = λ x has. has_right x here seen has
-knows_seen Skips seen here learns = absurd (learns refl)
-knows_seen Drops seen here learns = λ x has. has_right x here seen has
+pub knows_seen : (m : UnitMark) (seen here : List Version) → m ≢ Left → IsPart seen (known_by m seen here)
+knows_seen Stays seen here learns = λ x has. has_right x here seen has
+knows_seen Taken seen here learns = λ x has. has_right x here seen has
+knows_seen (Stamped c) seen here learns = λ x has. has_right x here seen has
+knows_seen Left seen here learns = absurd (learns refl)
+knows_seen Gone seen here learns = λ x has. has_right x here seen has
 
 pub knows_closed :
     (rs : List Record) (i : ItemId) (u : ℕ) (m : UnitMark) (seen here : List Version)
     → IsClosed rs i u seen → IsClosed rs i u here → IsClosed rs i u (known_by m seen here)
-knows_closed rs i u Keeps seen here a b = closed_union rs i u here seen b a
-knows_closed rs i u Takes seen here a b = closed_union rs i u here seen b a
-knows_closed rs i u (Stamps c) seen here a b = closed_union rs i u here seen b a
-knows_closed rs i u Skips seen here a b = b
-knows_closed rs i u Drops seen here a b = closed_union rs i u here seen b a
+knows_closed rs i u Stays seen here a b = closed_union rs i u here seen b a
+knows_closed rs i u Taken seen here a b = closed_union rs i u here seen b a
+knows_closed rs i u (Stamped c) seen here a b = closed_union rs i u here seen b a
+knows_closed rs i u Left seen here a b = b
+knows_closed rs i u Gone seen here a b = closed_union rs i u here seen b a
 
 -- where the snapshot knows nothing more, the known versions stay the same
 pub knows_here : (m : UnitMark) (seen here : List Version) → IsPart seen here → AreSame here (known_by m seen here)
-knows_here Keeps seen here part = joined_left here seen part
-knows_here Takes seen here part = joined_left here seen part
-knows_here (Stamps c) seen here part = joined_left here seen part
-knows_here Skips seen here part = same_self here
-knows_here Drops seen here part = joined_left here seen part
+knows_here Stays seen here part = joined_left here seen part
+knows_here Taken seen here part = joined_left here seen part
+knows_here (Stamped c) seen here part = joined_left here seen part
+knows_here Left seen here part = same_self here
+knows_here Gone seen here part = joined_left here seen part
 
 -- where the snapshot knows all, the known versions become the snapshot's, unless the unit is skipped
-pub knows_there : (m : UnitMark) (seen here : List Version) → m ≢ Skips → IsPart here seen → AreSame seen (known_by m seen here)
-knows_there Keeps seen here learns part = joined_right here seen part
-knows_there Takes seen here learns part = joined_right here seen part
-knows_there (Stamps c) seen here learns part = joined_right here seen part
-knows_there Skips seen here learns part = absurd (learns refl)
-knows_there Drops seen here learns part = joined_right here seen part
+pub knows_there : (m : UnitMark) (seen here : List Version) → m ≢ Left → IsPart here seen → AreSame seen (known_by m seen here)
+knows_there Stays seen here learns part = joined_right here seen part
+knows_there Taken seen here learns part = joined_right here seen part
+knows_there (Stamped c) seen here learns part = joined_right here seen part
+knows_there Left seen here learns part = absurd (learns refl)
+knows_there Gone seen here learns part = joined_right here seen part

@@ -2,29 +2,29 @@ use Rattle.std.proofs.Common.{◌≡◌, ◌≢◌, ℕ, zero, suc, ◌<◌, ◌
 use Rattle.std.proofs.lemmas.Bool.{cases_Bool, cases_eq}
 use Rattle.sfx_ids.specs.declared.item_id.ItemId.{ItemId}
 use Rattle.sfx_model.specs.World.{Content, Deleted, Site, Snapshot, World}
-use Rattle.sfx_model.specs.Events.{UnitMark, Keeps, Takes, Stamps, Skips, Drops, AllMarked, Joint, AllKeep, AllTake, AllSkip, AllDrop, AllDelete, AllWrite, Mixed}
+use Rattle.sfx_model.specs.Events.{UnitMark, Stays, Taken, Stamped, Left, Gone, AllMarked, Joint, AllStay, AllTaken, AllLeft, AllGone, AllDelete, AllWrite, Mixed}
 use Rattle.sfx_model.specs.Agreement.{IsSameKind, MarksDiffer, NoneDeletes, StampsDelete, NoneDrops, AgreesAcrossUnits}
 use Rattle.sfx_model.proofs.Marks.{stamped_content}
 
 -- whether both marks do the same
 abbrev pub same_kind : UnitMark → UnitMark → Bool
-same_kind Keeps Keeps = true
-same_kind Keeps k = false
-same_kind Takes Takes = true
-same_kind Takes k = false
-same_kind (Stamps c) (Stamps d) = true
-same_kind (Stamps c) k = false
-same_kind Skips Skips = true
-same_kind Skips k = false
-same_kind Drops Drops = true
-same_kind Drops k = false
+same_kind Stays Stays = true
+same_kind Stays k = false
+same_kind Taken Taken = true
+same_kind Taken k = false
+same_kind (Stamped c) (Stamped d) = true
+same_kind (Stamped c) k = false
+same_kind Left Left = true
+same_kind Left k = false
+same_kind Gone Gone = true
+same_kind Gone k = false
 
 pub same_kind_self : (m : UnitMark) → same_kind m m ≡ true
-same_kind_self Keeps = refl
-same_kind_self Takes = refl
-same_kind_self (Stamps c) = refl
-same_kind_self Skips = refl
-same_kind_self Drops = refl
+same_kind_self Stays = refl
+same_kind_self Taken = refl
+same_kind_self (Stamped c) = refl
+same_kind_self Left = refl
+same_kind_self Gone = refl
 
 pub other_kind : (m k : UnitMark) → same_kind m k ≡ false → IsSameKind m k → ⊥
 other_kind m k e is = elim is [
@@ -35,8 +35,8 @@ other_kind m k e is = elim is [
   | inr both ↦
       let a = stamped_content m both.0 in
       let b = stamped_content k both.1 in
-      let bad : same_kind (Stamps a.0) (Stamps b.0) ≡ false =
-      subst (λ (x : UnitMark). same_kind (Stamps a.0) x ≡ false) b.1 (subst (λ (x : UnitMark). same_kind x k ≡ false) a.1 e)
+      let bad : same_kind (Stamped a.0) (Stamped b.0) ≡ false =
+      subst (λ (x : UnitMark). same_kind (Stamped a.0) x ≡ false) b.1 (subst (λ (x : UnitMark). same_kind x k ≡ false) a.1 e)
       in
       cc
 ]
@@ -56,40 +56,40 @@ all_or_one test (suc n) = elim (cases_Bool (test n)) [
 ]
 
 -- marks that are all of the kind of the first
-pub kept_kind : (k : UnitMark) → same_kind Keeps k ≡ true → k ≡ Keeps
-kept_kind Keeps e = refl
-kept_kind Takes e = absurd (cc)
-kept_kind (Stamps c) e = absurd (cc)
-kept_kind Skips e = absurd (cc)
-kept_kind Drops e = absurd (cc)
+pub kept_kind : (k : UnitMark) → same_kind Stays k ≡ true → k ≡ Stays
+kept_kind Stays e = refl
+kept_kind Taken e = absurd (cc)
+kept_kind (Stamped c) e = absurd (cc)
+kept_kind Left e = absurd (cc)
+kept_kind Gone e = absurd (cc)
 
-pub taken_kind : (k : UnitMark) → same_kind Takes k ≡ true → k ≡ Takes
-taken_kind Keeps e = absurd (cc)
-taken_kind Takes e = refl
-taken_kind (Stamps c) e = absurd (cc)
-taken_kind Skips e = absurd (cc)
-taken_kind Drops e = absurd (cc)
+pub taken_kind : (k : UnitMark) → same_kind Taken k ≡ true → k ≡ Taken
+taken_kind Stays e = absurd (cc)
+taken_kind Taken e = refl
+taken_kind (Stamped c) e = absurd (cc)
+taken_kind Left e = absurd (cc)
+taken_kind Gone e = absurd (cc)
 
-pub stamped_kind : (d : Content) (k : UnitMark) → same_kind (Stamps d) k ≡ true → (c : Content) × (k ≡ Stamps c)
-stamped_kind d Keeps e = absurd (cc)
-stamped_kind d Takes e = absurd (cc)
-stamped_kind d (Stamps c) e = (c, refl)
-stamped_kind d Skips e = absurd (cc)
-stamped_kind d Drops e = absurd (cc)
+pub stamped_kind : (d : Content) (k : UnitMark) → same_kind (Stamped d) k ≡ true → (c : Content) × (k ≡ Stamped c)
+stamped_kind d Stays e = absurd (cc)
+stamped_kind d Taken e = absurd (cc)
+stamped_kind d (Stamped c) e = (c, refl)
+stamped_kind d Left e = absurd (cc)
+stamped_kind d Gone e = absurd (cc)
 
-pub skipped_kind : (k : UnitMark) → same_kind Skips k ≡ true → k ≡ Skips
-skipped_kind Keeps e = absurd (cc)
-skipped_kind Takes e = absurd (cc)
-skipped_kind (Stamps c) e = absurd (cc)
-skipped_kind Skips e = refl
-skipped_kind Drops e = absurd (cc)
+pub skipped_kind : (k : UnitMark) → same_kind Left k ≡ true → k ≡ Left
+skipped_kind Stays e = absurd (cc)
+skipped_kind Taken e = absurd (cc)
+skipped_kind (Stamped c) e = absurd (cc)
+skipped_kind Left e = refl
+skipped_kind Gone e = absurd (cc)
 
-pub dropped_kind : (k : UnitMark) → same_kind Drops k ≡ true → k ≡ Drops
-dropped_kind Keeps e = absurd (cc)
-dropped_kind Takes e = absurd (cc)
-dropped_kind (Stamps c) e = absurd (cc)
-dropped_kind Skips e = absurd (cc)
-dropped_kind Drops e = refl
+pub dropped_kind : (k : UnitMark) → same_kind Gone k ≡ true → k ≡ Gone
+dropped_kind Stays e = absurd (cc)
+dropped_kind Taken e = absurd (cc)
+dropped_kind (Stamped c) e = absurd (cc)
+dropped_kind Left e = absurd (cc)
+dropped_kind Gone e = refl
 
 -- marks that differ and agree across units are mixed
 pub differing_shape :
@@ -111,18 +111,18 @@ pub uniform_shape :
     (w : World) (s : Site) (snapshot : Snapshot) (i : ItemId) (marks : ℕ → UnitMark) (m : UnitMark)
     → AgreesAcrossUnits w s snapshot i marks → ((u : ℕ) → u < w.units → same_kind m (marks u) ≡ true)
     → Joint w s snapshot i marks
-uniform_shape w s snapshot i marks Keeps agrees all = AllKeep (λ u small. kept_kind (marks u) (all u small))
-uniform_shape w s snapshot i marks Takes agrees all = AllTake (λ u small. taken_kind (marks u) (all u small))
-uniform_shape w s snapshot i marks (Stamps d) agrees all = elim agrees.deletions [
+uniform_shape w s snapshot i marks Stays agrees all = AllStay (λ u small. kept_kind (marks u) (all u small))
+uniform_shape w s snapshot i marks Taken agrees all = AllTaken (λ u small. taken_kind (marks u) (all u small))
+uniform_shape w s snapshot i marks (Stamped d) agrees all = elim agrees.deletions [
   | inl none ↦ AllWrite (λ u small.
       let stamp = stamped_kind d (marks u) (all u small) in
-      (stamp.0, stamp.1, λ e. none u small (stamp.1 ∙ ap {B = UnitMark} Stamps e)))
+      (stamp.0, stamp.1, λ e. none u small (stamp.1 ∙ ap {B = UnitMark} Stamped e)))
   | inr delete ↦ AllDelete (λ u small.
       let stamp = stamped_kind d (marks u) (all u small) in
       (stamp.0, stamp.1, delete u stamp.0 small stamp.1))
 ]
-uniform_shape w s snapshot i marks Skips agrees all = AllSkip (λ u small. skipped_kind (marks u) (all u small))
-uniform_shape w s snapshot i marks Drops agrees all = AllDrop (λ u small. dropped_kind (marks u) (all u small))
+uniform_shape w s snapshot i marks Left agrees all = AllLeft (λ u small. skipped_kind (marks u) (all u small))
+uniform_shape w s snapshot i marks Gone agrees all = AllGone (λ u small. dropped_kind (marks u) (all u small))
 
 pub agreement_shape :
     (w : World) (s : Site) (snapshot : Snapshot) (i : ItemId) (marks : ℕ → UnitMark)
@@ -138,7 +138,7 @@ pub uniform_agrees :
     (w : World) (s : Site) (snapshot : Snapshot) (i : ItemId) (marks : ℕ → UnitMark)
     → ((u x : ℕ) → u < w.units → x < w.units → IsSameKind (marks u) (marks x))
     → NoneDeletes w.units marks ⊎ StampsDelete w.units marks
-    → NoneDrops w.units marks ⊎ AllMarked w.units marks Drops
+    → NoneDrops w.units marks ⊎ AllMarked w.units marks Gone
     → AgreesAcrossUnits w s snapshot i marks
 uniform_agrees w s snapshot i marks same deletions drops = record {
   there = λ differ. absurd (differ.4 (same differ.0 differ.1 differ.2 differ.3));
@@ -150,7 +150,7 @@ uniform_agrees w s snapshot i marks same deletions drops = record {
 
 pub marked_agrees :
     (w : World) (s : Site) (snapshot : Snapshot) (i : ItemId) (marks : ℕ → UnitMark) (m : UnitMark)
-    → AllMarked w.units marks m → m ≢ Stamps Deleted → NoneDrops w.units marks ⊎ AllMarked w.units marks Drops
+    → AllMarked w.units marks m → m ≢ Stamped Deleted → NoneDrops w.units marks ⊎ AllMarked w.units marks Gone
     → AgreesAcrossUnits w s snapshot i marks
 marked_agrees w s snapshot i marks m all writes drops =
     uniform_agrees w s snapshot i marks (λ u x a b. inl (all u a ∙ sym (all x b)))
@@ -158,7 +158,7 @@ marked_agrees w s snapshot i marks m all writes drops =
 
 pub stamped_agrees :
     (w : World) (s : Site) (snapshot : Snapshot) (i : ItemId) (marks : ℕ → UnitMark)
-    → ((u : ℕ) → u < w.units → (c : Content) × (marks u ≡ Stamps c))
+    → ((u : ℕ) → u < w.units → (c : Content) × (marks u ≡ Stamped c))
     → NoneDeletes w.units marks ⊎ StampsDelete w.units marks
     → AgreesAcrossUnits w s snapshot i marks
 stamped_agrees w s snapshot i marks all deletions =
@@ -169,22 +169,22 @@ pub shape_agrees :
     (w : World) (s : Site) (snapshot : Snapshot) (i : ItemId) (marks : ℕ → UnitMark)
     → Joint w s snapshot i marks → AgreesAcrossUnits w s snapshot i marks
 shape_agrees w s snapshot i marks joint = elim joint [
-  | AllKeep all ↦ marked_agrees w s snapshot i marks Keeps all (λ e. cc) (inl (λ u small e. let is = all u small in cc))
-  | AllTake all ↦ marked_agrees w s snapshot i marks Takes all (λ e. cc) (inl (λ u small e. let is = all u small in cc))
-  | AllSkip all ↦ marked_agrees w s snapshot i marks Skips all (λ e. cc) (inl (λ u small e. let is = all u small in cc))
-  | AllDrop all ↦ marked_agrees w s snapshot i marks Drops all (λ e. cc) (inr all)
+  | AllStay all ↦ marked_agrees w s snapshot i marks Stays all (λ e. cc) (inl (λ u small e. let is = all u small in cc))
+  | AllTaken all ↦ marked_agrees w s snapshot i marks Taken all (λ e. cc) (inl (λ u small e. let is = all u small in cc))
+  | AllLeft all ↦ marked_agrees w s snapshot i marks Left all (λ e. cc) (inl (λ u small e. let is = all u small in cc))
+  | AllGone all ↦ marked_agrees w s snapshot i marks Gone all (λ e. cc) (inr all)
   | AllDelete all ↦
       stamped_agrees w s snapshot i marks (λ u small. let stamp = all u small in (stamp.0, stamp.1))
       (inr (λ u c small is.
       let stamp = all u small in
-      let same : Stamps c ≡ Stamps stamp.0 = sym is ∙ stamp.1 in
+      let same : Stamped c ≡ Stamped stamp.0 = sym is ∙ stamp.1 in
       let content : c ≡ stamp.0 = cc in
       content ∙ stamp.2))
   | AllWrite all ↦
       stamped_agrees w s snapshot i marks (λ u small. let stamp = all u small in (stamp.0, stamp.1))
       (inl (λ u small is.
       let stamp = all u small in
-      let same : Stamps stamp.0 ≡ Stamps Deleted = sym stamp.1 ∙ is in
+      let same : Stamped stamp.0 ≡ Stamped Deleted = sym stamp.1 ∙ is in
       let content : stamp.0 ≡ Deleted = cc in
       stamp.2 content))
   | Mixed mixed ↦

@@ -1,7 +1,7 @@
 use Rattle.std.specs.Prelude.{◌≡◌, ◌≢◌, ℕ, ◌<◌, true, ◌⊎◌}
 use Rattle.sfx_ids.specs.declared.item_id.ItemId.{ItemId}
 use Rattle.sfx_model.specs.World.{Content, Deleted, Site, Snapshot, World, IsLiveHolding, holding}
-use Rattle.sfx_model.specs.Events.{UnitMark, Stamps, Drops, is_stamped, AllMarked, AllBring}
+use Rattle.sfx_model.specs.Events.{UnitMark, Stamped, Gone, is_stamped, AllMarked, AllBring}
 
 -- Both marks do the same; stamps are alike, whatever their contents.
 abbrev pub IsSameKind : UnitMark → UnitMark → Type 0
@@ -13,15 +13,15 @@ MarksDiffer units marks = (u : ℕ) × (x : ℕ) × (u < units) × (x < units) �
 
 -- No unit is stamped with a deletion.
 abbrev pub NoneDeletes : ℕ → (ℕ → UnitMark) → Type 0
-NoneDeletes units marks = (u : ℕ) → u < units → marks u ≢ Stamps Deleted
+NoneDeletes units marks = (u : ℕ) → u < units → marks u ≢ Stamped Deleted
 
 -- Each unit that is stamped is stamped with a deletion.
 abbrev pub StampsDelete : ℕ → (ℕ → UnitMark) → Type 0
-StampsDelete units marks = (u : ℕ) (c : Content) → u < units → marks u ≡ Stamps c → c ≡ Deleted
+StampsDelete units marks = (u : ℕ) (c : Content) → u < units → marks u ≡ Stamped c → c ≡ Deleted
 
 -- No unit is dropped.
 abbrev pub NoneDrops : ℕ → (ℕ → UnitMark) → Type 0
-NoneDrops units marks = (u : ℕ) → u < units → marks u ≢ Drops
+NoneDrops units marks = (u : ℕ) → u < units → marks u ≢ Gone
 
 -- What is asked of all marks of an entry together, said of any two units.
 pub record AgreesAcrossUnits (w : World) (s : Site) (snapshot : Snapshot) (i : ItemId) (marks : ℕ → UnitMark) : Type 0 where
@@ -34,4 +34,4 @@ pub record AgreesAcrossUnits (w : World) (s : Site) (snapshot : Snapshot) (i : I
   -- stamped contents delete at all units or at none
   pub deletions : NoneDeletes w.units marks ⊎ StampsDelete w.units marks
   -- all units are dropped or none is
-  pub drops : NoneDrops w.units marks ⊎ AllMarked w.units marks Drops
+  pub drops : NoneDrops w.units marks ⊎ AllMarked w.units marks Gone

@@ -14,15 +14,15 @@ use Rattle.sfx_model.specs.World.{Content, Written, Deleted, Record, Site, Snaps
 -- unless the unit is skipped.
 pub data UnitMark : Type 0 where
   -- the local version stays
-  Keeps : UnitMark
+  Stays : UnitMark
   -- the snapshot's version is taken
-  Takes : UnitMark
+  Taken : UnitMark
   -- the unit gets this content at the entry's version
-  Stamps : (content : Content) → UnitMark
+  Stamped : (content : Content) → UnitMark
   -- the unit is left alone
-  Skips : UnitMark
+  Left : UnitMark
   -- the unit goes with its item, which was cleaned away
-  Drops : UnitMark
+  Gone : UnitMark
 
 -- What can happen in a world. A replica that acts is named by its id.
 pub data Event : Type 0 where
@@ -138,43 +138,43 @@ forgot w s snapshot lo hi = record w { sites = put_site (site_forgot s snapshot 
 
 -- The versions of a cell known after an entry with this mark, before anything is made.
 abbrev pub known_by : UnitMark → List Version → List Version → List Version
-known_by Keeps seen here = here ++ seen
-known_by Takes seen here = here ++ seen
-known_by (Stamps c) seen here = here ++ seen
-known_by Skips seen here = here
-known_by Drops seen here = here ++ seen
+known_by Stays seen here = here ++ seen
+known_by Taken seen here = here ++ seen
+known_by (Stamped c) seen here = here ++ seen
+known_by Left seen here = here
+known_by Gone seen here = here ++ seen
 
 -- The content that an entry gives the unit, where it stamps it.
 abbrev pub content_of : UnitMark → Option Content
-content_of (Stamps c) = Some c
-content_of Keeps = None
-content_of Takes = None
-content_of Skips = None
-content_of Drops = None
+content_of (Stamped c) = Some c
+content_of Stays = None
+content_of Taken = None
+content_of Left = None
+content_of Gone = None
 
 -- Whether the entry stamps the unit.
 abbrev pub is_stamped : UnitMark → Bool
-is_stamped (Stamps c) = true
-is_stamped Keeps = false
-is_stamped Takes = false
-is_stamped Skips = false
-is_stamped Drops = false
+is_stamped (Stamped c) = true
+is_stamped Stays = false
+is_stamped Taken = false
+is_stamped Left = false
+is_stamped Gone = false
 
 -- Whether the entry makes the item present by this unit.
 abbrev pub brings : UnitMark → Bool
-brings Takes = true
-brings (Stamps c) = true
-brings Keeps = false
-brings Skips = false
-brings Drops = false
+brings Taken = true
+brings (Stamped c) = true
+brings Stays = false
+brings Left = false
+brings Gone = false
 
 -- Whether the entry drops the unit.
 abbrev pub is_dropped : UnitMark → Bool
-is_dropped Drops = true
-is_dropped Keeps = false
-is_dropped Takes = false
-is_dropped (Stamps c) = false
-is_dropped Skips = false
+is_dropped Gone = true
+is_dropped Stays = false
+is_dropped Taken = false
+is_dropped (Stamped c) = false
+is_dropped Left = false
 
 -- Whether one of the first units passes the test.
 abbrev pub some_unit : (ℕ → Bool) → ℕ → Bool
@@ -370,11 +370,11 @@ pub record DropLegal (w : World) (s : Site) (snapshot : Snapshot) (i : ItemId) (
 
 -- What a mark asks of its unit. A unit may keep its version where the snapshot knows nothing else.
 abbrev pub UnitLegal : World → Site → Snapshot → ItemId → Version → ℕ → UnitMark → Type 0
-UnitLegal w s snapshot i v u Keeps = IsPart (snapshot.known i u) (s.known i u)
-UnitLegal w s snapshot i v u Takes = TakeLegal s snapshot i u
-UnitLegal w s snapshot i v u (Stamps c) = StampLegal s snapshot i v
-UnitLegal w s snapshot i v u Skips = Unit {0}
-UnitLegal w s snapshot i v u Drops = DropLegal w s snapshot i u
+UnitLegal w s snapshot i v u Stays = IsPart (snapshot.known i u) (s.known i u)
+UnitLegal w s snapshot i v u Taken = TakeLegal s snapshot i u
+UnitLegal w s snapshot i v u (Stamped c) = StampLegal s snapshot i v
+UnitLegal w s snapshot i v u Left = Unit {0}
+UnitLegal w s snapshot i v u Gone = DropLegal w s snapshot i u
 
 -- Each unit has this mark.
 abbrev pub AllMarked : ℕ → (ℕ → UnitMark) → UnitMark → Type 0
@@ -382,7 +382,7 @@ AllMarked units marks mark = (u : ℕ) → u < units → marks u ≡ mark
 
 -- Each unit is stamped, with a content of which this holds.
 abbrev pub AllStamped : ℕ → (ℕ → UnitMark) → (Content → Type 0) → Type 0
-AllStamped units marks P = (u : ℕ) → u < units → (c : Content) × (marks u ≡ Stamps c) × P c
+AllStamped units marks P = (u : ℕ) → u < units → (c : Content) × (marks u ≡ Stamped c) × P c
 
 -- Each unit is taken or stamped.
 abbrev pub AllBring : ℕ → (ℕ → UnitMark) → Type 0
@@ -392,16 +392,16 @@ AllBring units marks = (u : ℕ) → u < units → brings (marks u) ≡ true
 -- dropped, and the local item is live too unless each unit is taken or stamped.
 pub record AreMixed (w : World) (s : Site) (snapshot : Snapshot) (i : ItemId) (marks : ℕ → UnitMark) : Type 0 where
   pub there : IsLiveHolding w.units w.records i (holding snapshot i)
-  pub result : (u : ℕ) → u < w.units → marks u ≢ Stamps Deleted
-  pub whole : (u : ℕ) → u < w.units → marks u ≢ Drops
+  pub result : (u : ℕ) → u < w.units → marks u ≢ Stamped Deleted
+  pub whole : (u : ℕ) → u < w.units → marks u ≢ Gone
   pub here : IsLiveHolding w.units w.records i (holding s i) ⊎ AllBring w.units marks
 
 -- The shapes that the marks of one entry can have together.
 pub data Joint (w : World) (s : Site) (snapshot : Snapshot) (i : ItemId) (marks : ℕ → UnitMark) : Type 0 where
-  AllKeep : AllMarked w.units marks Keeps → Joint w s snapshot i marks
-  AllTake : AllMarked w.units marks Takes → Joint w s snapshot i marks
-  AllSkip : AllMarked w.units marks Skips → Joint w s snapshot i marks
-  AllDrop : AllMarked w.units marks Drops → Joint w s snapshot i marks
+  AllStay : AllMarked w.units marks Stays → Joint w s snapshot i marks
+  AllTaken : AllMarked w.units marks Taken → Joint w s snapshot i marks
+  AllLeft : AllMarked w.units marks Left → Joint w s snapshot i marks
+  AllGone : AllMarked w.units marks Gone → Joint w s snapshot i marks
   AllDelete : AllStamped w.units marks (λ c. c ≡ Deleted) → Joint w s snapshot i marks
   AllWrite : AllStamped w.units marks (λ c. c ≢ Deleted) → Joint w s snapshot i marks
   Mixed : AreMixed w s snapshot i marks → Joint w s snapshot i marks

@@ -7,7 +7,7 @@ use Rattle.sfx_ids.specs.Cut.{is_between}
 use Rattle.sfx_item.specs.declared.cell.Cell.{Cell}
 use Rattle.sfx_model.specs.Sets.{Has}
 use Rattle.sfx_model.specs.World.{Content, Written, Deleted, Snapshot, World, Made, IsContained}
-use Rattle.sfx_model.specs.Events.{UnitMark, Keeps, Takes, Stamps, Skips, Drops, same_item, is_in, forgotten_with, forgotten_joined, clock_after, AllMarked, AllStamped}
+use Rattle.sfx_model.specs.Events.{UnitMark, Stays, Taken, Stamped, Left, Gone, same_item, is_in, forgotten_with, forgotten_joined, clock_after, AllMarked, AllStamped}
 use Rattle.sfx_model.specs.Members.{ItemState, Live, Dead, Shown, clock_of, state_of}
 
 -- The made-with knowledge that comes with a snapshot's state of an item: at the item it contains exactly
@@ -46,11 +46,11 @@ is_left_at left End u = false
 -- A tick of the known vector after an entry with this mark: joined with the made-with one, but for a
 -- skipped unit.
 abbrev pub joined_by : UnitMark → ℕ → ℕ → ℕ
-joined_by Keeps here made_with = max here made_with
-joined_by Takes here made_with = max here made_with
-joined_by (Stamps c) here made_with = max here made_with
-joined_by Skips here made_with = here
-joined_by Drops here made_with = max here made_with
+joined_by Stays here made_with = max here made_with
+joined_by Taken here made_with = max here made_with
+joined_by (Stamped c) here made_with = max here made_with
+joined_by Left here made_with = here
+joined_by Gone here made_with = max here made_with
 
 -- Knowledge with the own clock laid over it.
 abbrev pub with_own : ℕ → ℕ → (Cut → ℕ → ℕ → ℕ) → Cut → ℕ → ℕ → ℕ
@@ -96,12 +96,12 @@ pub record HasCell (v : Version) (value : List ℕ) (c : Cell) : Type 0 where
 
 -- The cell of a live result, by the unit's mark: the one before, the one seen, or the stamped value.
 abbrev pub CellResult : Version → UnitMark → Option Cell → Option Cell → Cell → Type 0
-CellResult v Keeps before seen c = before ≡ Some c
-CellResult v Takes before seen c = seen ≡ Some c
-CellResult v (Stamps (Written bytes)) before seen c = HasCell v bytes c
-CellResult v (Stamps Deleted) before seen c = ⊥
-CellResult v Skips before seen c = before ≡ Some c
-CellResult v Drops before seen c = ⊥
+CellResult v Stays before seen c = before ≡ Some c
+CellResult v Taken before seen c = seen ≡ Some c
+CellResult v (Stamped (Written bytes)) before seen c = HasCell v bytes c
+CellResult v (Stamped Deleted) before seen c = ⊥
+CellResult v Left before seen c = before ≡ Some c
+CellResult v Gone before seen c = ⊥
 
 -- These cells are the live result of an entry.
 pub record CellsResult (units : ℕ) (v : Version) (marks : ℕ → UnitMark) (before seen : Option ItemState) (cells : List Cell) : Type 0 where
@@ -111,9 +111,9 @@ pub record CellsResult (units : ℕ) (v : Version) (marks : ℕ → UnitMark) (b
 -- What an entry makes of the state of its item, `seen` being that of the snapshot: it is as before, as
 -- seen, gone, dead by the entry's version, or live with cells by the marks.
 pub data StateResult (units : ℕ) (v : Version) (marks : ℕ → UnitMark) (before seen after : Option ItemState) : Type 0 where
-  Unchanged : AllMarked units marks Keeps ⊎ AllMarked units marks Skips → after ≡ before → StateResult units v marks before seen after
-  AsSeen : AllMarked units marks Takes → after ≡ seen → StateResult units v marks before seen after
-  Removed : AllMarked units marks Drops → after ≡ None → StateResult units v marks before seen after
+  Unchanged : AllMarked units marks Stays ⊎ AllMarked units marks Left → after ≡ before → StateResult units v marks before seen after
+  AsSeen : AllMarked units marks Taken → after ≡ seen → StateResult units v marks before seen after
+  Removed : AllMarked units marks Gone → after ≡ None → StateResult units v marks before seen after
   DeadNow : AllStamped units marks (λ c. c ≡ Deleted) → after ≡ Some (Dead v) → StateResult units v marks before seen after
   LiveNow : (cells : List Cell) → after ≡ Some (Live cells) → CellsResult units v marks before seen cells → StateResult units v marks before seen after
 
@@ -128,8 +128,8 @@ pub record EntryResult (units : ℕ) (i : ItemId) (v : Version) (marks : ℕ →
 
 -- The mark of a unit in an edit: it is stamped where the edit has a content for it, and else kept.
 abbrev pub mark_of : Option Content → UnitMark
-mark_of None = Keeps
-mark_of (Some c) = Stamps c
+mark_of None = Stays
+mark_of (Some c) = Stamped c
 
 -- What a creation, an edit and a deletion owe of the member.
 pub record EditResult (units : ℕ) (i : ItemId) (v : Version) (contents : ℕ → Option Content) (m n : Shown) : Type 0 where

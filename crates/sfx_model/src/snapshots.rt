@@ -4,7 +4,7 @@ ghost use Rattle.sfx_ids.specs.declared.cut.Cut.{Cut};
 ghost use Rattle.sfx_ids.specs.declared.cut.Cut.TheVariants.{At};
 ghost use Rattle.sfx_ids.specs.declared.item_id.ItemId.{ItemId};
 ghost use Rattle.sfx_ids.specs.declared.version.Version.{Version};
-ghost use Rattle.sfx_model.specs.Events.{Drops, Event, IsFresh, IsKnownHere, Keeps, Legal, Stamps, Takes, UnitLegal, after};
+ghost use Rattle.sfx_model.specs.Events.{Gone, Event, IsFresh, IsKnownHere, Stays, Legal, Stamped, Taken, UnitLegal, after};
 ghost use Rattle.sfx_model.specs.Members.{ItemState, Shown, state_of};
 ghost use Rattle.sfx_model.specs.Snapshots.{AreWithin, Carried, HasContained, KeepsUnits, Meets};
 ghost use Rattle.sfx_model.specs.World.{Content, IsContained, Site, Snapshot, WellFormed, World};
@@ -36,43 +36,43 @@ pub fn marks_are_legal()
         (seen : ItemState) (v : Version) (u : ℕ) →
         WellFormed w → Meets w s m snapshot i made_with (Some seen) → u < w.units →
         HasContained seen u (m.vector_at (At i) u) →
-        UnitLegal w s snapshot i v u Keeps }
+        UnitLegal w s snapshot i v u Stays }
     ensures newer { (w : World) (s : Site) (m : Shown) (snapshot : Snapshot) (i : ItemId)
         (made_with : Cut → ℕ → ℕ → ℕ)
         (seen held : ItemState) (v : Version) (u : ℕ) →
         WellFormed w → Meets w s m snapshot i made_with (Some seen) → u < w.units →
         state_of m.items i ≡ Some held → HasContained held u (made_with (At i) u) →
-        UnitLegal w s snapshot i v u Takes }
+        UnitLegal w s snapshot i v u Taken }
     ensures created { (w : World) (s : Site) (m : Shown) (snapshot : Snapshot) (i : ItemId)
         (made_with : Cut → ℕ → ℕ → ℕ)
         (seen : ItemState) (v : Version) (u : ℕ) →
         WellFormed w → Meets w s m snapshot i made_with (Some seen) →
         ¬ IsContained (m.vector_at (At i) 0) (creation_of i) →
-        UnitLegal w s snapshot i v u Takes }
+        UnitLegal w s snapshot i v u Taken }
     ensures cleaned { (w : World) (s : Site) (m : Shown) (snapshot : Snapshot) (i : ItemId)
         (made_with : Cut → ℕ → ℕ → ℕ)
         (seen : ItemState) (v : Version) (u : ℕ) →
         WellFormed w → Meets w s m snapshot i made_with (Some seen) → u < w.units →
         state_of m.items i ≡ None → AreWithin w.units i m.forgotten made_with →
-        UnitLegal w s snapshot i v u Takes }
+        UnitLegal w s snapshot i v u Taken }
     ensures stamped { (w : World) (s : Site) (m : Shown) (snapshot : Snapshot) (i : ItemId)
         (made_with : Cut → ℕ → ℕ → ℕ)
         (seen : ItemState) (v : Version) (u : ℕ) (c : Content) →
         WellFormed w → Meets w s m snapshot i made_with (Some seen) → IsFresh s v →
-        UnitLegal w s snapshot i v u (Stamps c) }
+        UnitLegal w s snapshot i v u (Stamped c) }
     ensures restamped { (w : World) (s : Site) (m : Shown) (snapshot : Snapshot) (i : ItemId)
         (made_with : Cut → ℕ → ℕ → ℕ)
         (seen : Option ItemState) (held : ItemState) (v : Version) (u : ℕ) (c : Content) →
         WellFormed w → Meets w s m snapshot i made_with seen → state_of m.items i ≡ Some held →
         IsFresh s v →
-        UnitLegal w s snapshot i v u (Stamps c) }
+        UnitLegal w s snapshot i v u (Stamped c) }
     ensures dropped { (w : World) (s : Site) (m : Shown) (snapshot : Snapshot) (i : ItemId)
         (made_with : Cut → ℕ → ℕ → ℕ)
         (held : ItemState) (v : Version) (u : ℕ) →
         WellFormed w → Meets w s m snapshot i made_with None → u < w.units →
         state_of m.items i ≡ Some held → HasContained held u (made_with (At i) u) →
         ((r : ℕ) → snapshot.forgotten (At i) r ≤ m.forgotten (At i) r) →
-        UnitLegal w s snapshot i v u Drops }
+        UnitLegal w s snapshot i v u Gone }
     ensures listed { (w : World) (s : Site) (m : Shown) (snapshot : Snapshot) (i : ItemId)
         (made_with : Cut → ℕ → ℕ → ℕ)
         (seen : ItemState) (left : ItemId → ℕ → Bool) →

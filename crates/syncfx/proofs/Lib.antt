@@ -1,0 +1,11 @@
+pub mod Reading
+pub mod OwnKnowledge
+pub mod LineWords
+pub mod Words
+pub mod Listings
+pub mod Places
+pub mod Edits
+pub mod Creates
+pub mod Playing
+pub mod History
+pub mod Running

@@ -1,0 +1,11 @@
+pub mod Word
+pub mod Replica
+pub mod Items
+pub mod Line
+pub mod Listing
+pub mod Reply
+pub mod Turn
+pub mod Community
+pub mod Status
+pub mod Run
+pub mod History
