@@ -4,6 +4,7 @@ ghost use Rattle.sfx_model.specs.World.{Written, Site, Snapshot, World, WellForm
 ghost use Rattle.sfx_model.specs.Events.{UnitMark, Joint, Event, Legal, after, AllLegal, after_all, Deed, AreLegalDeeds, after_deeds};
 ghost use Rattle.sfx_model.specs.Agreement.{AgreesAcrossUnits};
 ghost use Rattle.sfx_model.specs.Members.{RepresentsWorld};
+ghost use Rattle.sfx_model.specs.Headline.{FactsHold};
 ghost use Rattle.sfx_model.specs.Examples.{example_version, example_record, edited, edited_again, deleted, example_world, run_events, run_world, run_records, run_community};
 
 /// The law of the world: it begins well-formed, and each event that may happen keeps it so, for every
@@ -36,10 +37,12 @@ pub fn examples()
     ensures twice { ¬ WellFormed (example_world (example_record 1 (Written (98 ∷ [])) [] ∷ example_record 1 (Written (97 ∷ [])) [] ∷ []) 1 (example_version 1 ∷ []) true 0) }
 {}
 
-/// A short run from the empty world: its events may happen, they make these records, and this state
-/// represents the world afterwards. Nothing happens when this function is called.
+/// A short run from the empty world: its events may happen, they make these records, this state
+/// represents the world afterwards, and the three facts hold of it. Nothing happens when this function
+/// is called.
 pub fn short_run()
     ensures legal { AllLegal empty_world run_events }
     ensures records { run_world.records ≡ run_records }
     ensures state { RepresentsWorld run_world run_community }
+    ensures facts { FactsHold run_world run_community }
 {}

@@ -1,4 +1,6 @@
-use Rattle.sfx_model.proofs.Run.{run_legal, run_records_are, run_represents}
+use Rattle.sfx_model.proofs.Headline.{facts_hold}
+use Rattle.sfx_model.proofs.Run.{run_legal, run_records_are, run_represents, run_well_formed}
+use Rattle.sfx_model.specs.Examples.{run_community, run_world}
 use Rattle.sfx_model.proofs.world.short_run.Goals as goal
 
 pub returns-clause-legal : goal.returns-clause-legal
@@ -9,3 +11,6 @@ returns-clause-records c = run_records_are
 
 pub returns-clause-state : goal.returns-clause-state
 returns-clause-state c = run_represents
+
+pub returns-clause-facts : goal.returns-clause-facts
+returns-clause-facts c = facts_hold run_world run_community run_well_formed run_represents
