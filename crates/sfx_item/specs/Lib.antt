@@ -1,1 +1,5 @@
+pub mod Clash
+pub mod Faults
+pub mod Name
+pub mod Row
 pub mod State

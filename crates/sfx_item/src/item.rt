@@ -1,7 +1,8 @@
-ghost use Rattle.std.specs.Prelude.{◌≡◌};
+ghost use Rattle.std.specs.Prelude.{◌≡◌, IfOk};
 
 use crate::State;
-use sfx_ids::{ItemId, UnitId, Version};
+use sfx_ids::{ItemId, Memory, UnitId, Version};
+use std::alloc::Global;
 
 /// An item that a replica holds, live or as a tombstone.
 #[derive(Drop)]
@@ -21,5 +22,18 @@ impl<const U: usize> Item<U> {
             State::Live(row) => row.cell(unit).version,
             State::Dead(version) => *version,
         }
+    }
+
+    /// An equal item.
+    ///
+    /// # Errors
+    /// `Memory`.
+    pub fn copy(&self, alloc: Global) -> Result<Self, Memory>
+        ensures { IfOk result (λ copy. copy ≡ self.now) }
+    {
+        Ok(Item {
+            id: self.id,
+            state: self.state.copy(alloc)?,
+        })
     }
 }

@@ -1,0 +1,6 @@
+use Rattle.std.proofs.Common.{◌≡◌, ℕ, ◌<◌, get_or}
+use Rattle.sfx_item.specs.Name.{slash}
+use Rattle.sfx_item.proofs.first_wrong.component_len.Given as goal
+
+abbrev pub invariant-loop-i : goal.invariant-loop-i
+invariant-loop-i l = (k : ℕ) → k < l.i → get_or l.bytes k 0 ≡ slash → ⊥
