@@ -1,0 +1,14 @@
+use Rattle.std.proofs.Common.{◌≡◌, ◌<◌, length, get_or, subst, ◌∙◌, arith}
+use Rattle.sfx_vector.specs.Clocks.{AreClocks}
+use Rattle.sfx_vector.proofs.Entries.{tick-item}
+use Rattle.sfx_vector.proofs.clock_vector.ClockVector.within.Goals as goal
+
+pub returns-then-get : goal.returns-then-get
+returns-then-get c =
+    let entry = c.entry-item.result in
+    let whole : c.deref-entry-items.result.now ≡ c.args.self.now = c.deref-entry-items.ensures.value ∙ c.self.view_is in
+    let from : AreClocks c.args.self.now = subst AreClocks c.self.view_is c.self.invariant in
+    let is = subst (λ xs. entry ≡ get_or xs c.loop-entry.entry-index entry) whole c.entry-item.is in
+    let within = subst (λ xs. c.loop-entry.entry-index < length xs) whole c.loop-entry-test.true in
+    let item = tick-item 0 c.loop-entry.entry-index c.args.self.now entry from within is in
+    (λ no. cc, λ all. absurd (omega (arith, item.1, all entry.0, c.get.ensures.value, c.get-in-loop-entry.ensures)))

@@ -1,0 +1,5 @@
+use Rattle.sfx_vector.proofs.Entries.{same_ticks}
+use Rattle.sfx_vector.proofs.laws.ticks_tell_apart.Goals as goal
+
+pub returns : goal.returns
+returns c = same_ticks 0
