@@ -1,0 +1,7 @@
+pub mod Places
+pub mod Forms
+pub mod Walks
+pub mod Passing
+pub mod Pushing
+pub mod Merging
+pub mod Ranges

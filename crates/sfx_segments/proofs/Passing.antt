@@ -1,0 +1,96 @@
+-- Walking a list of segments up to a place.
+use Rattle.std.proofs.Common.{◌≡◌, ◌⊎◌, ◌<◌, ◌≤◌, Bool, true, false, true≢false, if◌then◌else◌, inl, inr, arith, refl, sym, ap, subst, ◌∙◌, List, [], ◌∷◌, length}
+use Rattle.sfx_ids.specs.declared.cut.Cut.{Cut}
+use Rattle.sfx_ids.specs.declared.cut.Cut.TheVariants.{End}
+use Rattle.sfx_ids.specs.Cut.{cut_lt, cut_le}
+use Rattle.sfx_ids.proofs.CutOrder.{lt-not_le, not_le, le_trans, lt_trans, lt_le_trans}
+use Rattle.sfx_segments.specs.Segments.{segment_at}
+use Rattle.sfx_segments.specs.Merge.{start_of, earlier, passed}
+use Rattle.sfx_segments.proofs.Places.{segment_at-passed, segment_at-ahead}
+
+-- ---- one list
+
+passed-cons : {A : Type 0} (value : A) (p : Cut × A) (ps : List (Cut × A)) (place : Cut) → cut_le p.0 place ≡ true → passed value (p ∷ ps) place ≡ passed p.1 ps place
+passed-cons {A} value p ps place le =
+    ap (λ (b : Bool). let r : A × List (Cut × A) = if b then passed p.1 ps place else (value, p ∷ ps) in r) le
+
+passed-ahead : {A : Type 0} (value : A) (p : Cut × A) (ps : List (Cut × A)) (place : Cut) → cut_le p.0 place ≡ false → let r : A × List (Cut × A) = (value, p ∷ ps) in passed value (p ∷ ps) place ≡ r
+passed-ahead {A} value p ps place ahead =
+    ap (λ (b : Bool). let r : A × List (Cut × A) = if b then passed p.1 ps place else (value, p ∷ ps) in r) ahead
+
+-- the test, with what it says
+data Tested (b : Bool) : Type 0 where
+  yes_it : b ≡ true → Tested b
+  not_it : b ≡ false → Tested b
+
+tested : (b : Bool) → Tested b
+tested true = yes_it refl
+tested false = not_it refl
+
+-- from the place on, what is left gives what the list gives
+pub segment_at-passed_list : {A : Type 0} (value : A) (ps : List (Cut × A)) (place q : Cut) → cut_le place q ≡ true → segment_at (passed value ps place).0 (passed value ps place).1 q ≡ segment_at value ps q
+segment_at-passed_list value [] place q le = refl
+segment_at-passed_list {A} value (p ∷ ps) place q le = elim (tested (cut_le p.0 place)) [
+  | yes_it here ↦
+      subst (λ (r : A × List (Cut × A)). segment_at r.0 r.1 q ≡ segment_at value (p ∷ ps) q) (sym (passed-cons value p ps place here))
+      (segment_at-passed_list p.1 ps place q le ∙ sym (segment_at-passed value p ps q (le_trans p.0 place q here le)))
+  | not_it ahead ↦
+      subst (λ (r : A × List (Cut × A)). segment_at r.0 r.1 q ≡ segment_at value (p ∷ ps) q) (sym (passed-ahead value p ps place ahead)) refl
+]
+
+-- what is left begins behind the place
+pub start_of-passed : {A : Type 0} (value : A) (ps : List (Cut × A)) (place : Cut) → cut_lt place End ≡ true → cut_lt place (start_of (passed value ps place).1) ≡ true
+start_of-passed value [] place inside = inside
+start_of-passed {A} value (p ∷ ps) place inside = elim (tested (cut_le p.0 place)) [
+  | yes_it here ↦
+      subst (λ (r : A × List (Cut × A)). cut_lt place (start_of r.1) ≡ true) (sym (passed-cons value p ps place here))
+      (start_of-passed p.1 ps place inside)
+  | not_it ahead ↦
+      subst (λ (r : A × List (Cut × A)). cut_lt place (start_of r.1) ≡ true) (sym (passed-ahead value p ps place ahead))
+      (not_le p.0 place ahead)
+]
+
+pub length-passed : {A : Type 0} (value : A) (ps : List (Cut × A)) (place : Cut) → length (passed value ps place).1 ≤ length ps
+length-passed value [] place = omega arith
+length-passed {A} value (p ∷ ps) place = elim (tested (cut_le p.0 place)) [
+  | yes_it here ↦
+      subst (λ (r : A × List (Cut × A)). length r.1 ≤ length (p ∷ ps)) (sym (passed-cons value p ps place here))
+      (let rest : length (passed p.1 ps place).1 ≤ length ps = length-passed p.1 ps place in omega arith)
+  | not_it ahead ↦
+      subst (λ (r : A × List (Cut × A)). length r.1 ≤ length (p ∷ ps)) (sym (passed-ahead value p ps place ahead)) (omega arith)
+]
+
+pub passed_shorter : {A : Type 0} (value : A) (ps : List (Cut × A)) (place : Cut) → cut_le (start_of ps) place ≡ true → cut_lt place End ≡ true → length (passed value ps place).1 < length ps
+passed_shorter value [] place le inside = absurd (true≢false (sym le ∙ lt-not_le place End inside))
+passed_shorter {A} value (p ∷ ps) place le inside =
+    subst (λ (r : A × List (Cut × A)). length r.1 < length (p ∷ ps)) (sym (passed-cons value p ps place le))
+    (let rest : length (passed p.1 ps place).1 ≤ length ps = length-passed p.1 ps place in omega arith)
+
+-- before the first segment there is the value
+pub segment_at-before : {A : Type 0} (value : A) (ps : List (Cut × A)) (q : Cut) → cut_lt q (start_of ps) ≡ true → segment_at value ps q ≡ value
+segment_at-before value [] q lt = refl
+segment_at-before value (p ∷ ps) q lt = segment_at-ahead value p ps q lt
+
+-- ---- the earlier of two cuts
+
+pub before_earlier : (a b q : Cut) → cut_lt q (earlier a b) ≡ true → (cut_lt q a ≡ true) × (cut_lt q b ≡ true)
+before_earlier a b q lt = elim (tested (cut_le a b)) [
+  | yes_it le ↦
+      let here : cut_lt q a ≡ true = subst (λ c. cut_lt q c ≡ true) (ap (λ (t : Bool). if t then a else b) le) lt in
+      (here, lt_le_trans q a b here le)
+  | not_it ahead ↦
+      let here : cut_lt q b ≡ true = subst (λ c. cut_lt q c ≡ true) (ap (λ (t : Bool). if t then a else b) ahead) lt in
+      (lt_trans q b a here (not_le a b ahead), here)
+]
+
+pub lt-earlier : (a b q : Cut) → cut_lt q a ≡ true → cut_lt q b ≡ true → cut_lt q (earlier a b) ≡ true
+lt-earlier a b q first second = elim (tested (cut_le a b)) [
+  | yes_it le ↦ subst (λ c. cut_lt q c ≡ true) (sym (ap (λ (t : Bool). if t then a else b) le)) first
+  | not_it ahead ↦ subst (λ c. cut_lt q c ≡ true) (sym (ap (λ (t : Bool). if t then a else b) ahead)) second
+]
+
+pub earlier_cases : (a b : Cut) → (earlier a b ≡ a) ⊎ (earlier a b ≡ b)
+earlier_cases a b = elim (tested (cut_le a b)) [
+  | yes_it le ↦ inl (ap (λ (t : Bool). if t then a else b) le)
+  | not_it ahead ↦ inr (ap (λ (t : Bool). if t then a else b) ahead)
+]
