@@ -11,7 +11,7 @@ use Rattle.sfx_model.specs.Sets.{Has, IsPart}
 use Rattle.sfx_model.specs.World.{Content, Written, Deleted, Record, Site, Snapshot, World, IsDeadAt, IsLiveHolding, IsForgotten, IsSound, holding}
 
 -- What an applied entry does with one unit of its item. What the snapshot knows of the unit is learned,
--- unless the unit is skipped.
+-- unless the unit is left alone.
 pub data UnitMark : Type 0 where
   -- the local version stays
   Stays : UnitMark
@@ -202,7 +202,7 @@ site_applied units s snapshot i v marks =
     record (with_item s i (λ u. known_with v (knew_by marks snapshot s i u) (content_of (marks u))) (present_after marks units (s.present i)))
     { clock = clock_after marks units v.tick s.clock }
 
--- An entry applied: the units that are not skipped are learned, and then the stamped ones are made, so
+-- An entry applied: the units that are not left alone are learned, and then the stamped ones are made, so
 -- that the new records know what was just learned.
 abbrev pub applied : World → Site → Snapshot → ItemId → Version → (ℕ → UnitMark) → World
 applied w s snapshot i v marks = record w {

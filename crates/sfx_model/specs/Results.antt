@@ -44,7 +44,7 @@ is_left_at left (After i) u = false
 is_left_at left End u = false
 
 -- A tick of the known vector after an entry with this mark: joined with the made-with one, but for a
--- skipped unit.
+-- unit left alone.
 abbrev pub joined_by : UnitMark → ℕ → ℕ → ℕ
 joined_by Stays here made_with = max here made_with
 joined_by Taken here made_with = max here made_with

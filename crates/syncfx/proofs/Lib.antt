@@ -9,3 +9,5 @@ pub mod Creates
 pub mod Playing
 pub mod History
 pub mod Running
+pub mod Names
+pub mod Rows

@@ -76,7 +76,7 @@ impl Community {
                 item,
                 unit,
                 value,
-            } => Ok(self.set(&replica, &item, unit, value)),
+            } => self.set(alloc, &replica, &item, unit, value),
             Line::Show { replica } => self.show(alloc, &replica),
             Line::Knows {
                 replica,
@@ -123,14 +123,22 @@ impl Community {
         reply
     }
 
-    fn set(&mut self, name: &ReplicaName, item: &ItemId, unit: u64, value: Value) -> Reply
-        ensures reply { result ≡ (set_turn self.old (member_of self.old.members name.now) item.now unit value).reply }
-        ensures after { self.new ≡ (set_turn self.old (member_of self.old.members name.now) item.now unit value).community }
+    fn set(
+        &mut self,
+        alloc: Global,
+        name: &ReplicaName,
+        item: &ItemId,
+        unit: u64,
+        value: Value,
+    ) -> Result<Reply, Memory>
+        ensures reply { IfOk result (λ reply. reply ≡ (set_turn self.old (member_of self.old.members name.now) item.now unit value).reply) }
+        ensures after { OnOk result (self.new ≡ (set_turn self.old (member_of self.old.members name.now) item.now unit value).community) }
+        ensures err { OnErr result (self.new ≡ self.old) }
     {
         let Some(mut named) = self.member.take() else {
-            return Reply::NotBuilt;
+            return Ok(Reply::NotBuilt);
         };
-        let reply = named.set(name, item, unit, value);
+        let reply = named.set(alloc, name, item, unit, value);
         self.member = Some(named);
         reply
     }

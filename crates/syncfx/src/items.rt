@@ -47,10 +47,7 @@ fn is_named<const U: usize>(state: &State<U>, name: &[u8]) -> bool
     ensures { result ≡ is_named name.now (state_view state.now) }
 {
     match state {
-        State::Live(row) => match row.first() {
-            Some(cell) => cell.value.bytes() == name,
-            None => false,
-        },
+        State::Live(row) => row.name().bytes() == name,
         State::Dead(_) => false,
     }
 }

@@ -57,16 +57,27 @@ impl NamedReplica {
     }
 
     /// Writes a value to one unit of an item, where the replica has this name and may.
-    pub fn set(&mut self, name: &ReplicaName, item: &ItemId, unit: u64, value: Value) -> Reply
-        ensures reply { result ≡ option_map_or (λ _. Changed (next_version self.old.replica)) (editable_in self.old name.now item.now unit value) NotBuilt }
-        ensures after { self.new ≡ with_replica self.old (option_map_or (λ cells. edited self.old.replica item.now cells unit value) (editable_in self.old name.now item.now unit value) self.old.replica) }
+    ///
+    /// # Errors
+    /// `Memory`; nothing has changed then.
+    pub fn set(
+        &mut self,
+        alloc: Global,
+        name: &ReplicaName,
+        item: &ItemId,
+        unit: u64,
+        value: Value,
+    ) -> Result<Reply, Memory>
+        ensures reply { IfOk result (λ reply. reply ≡ option_map_or (λ _. Changed (next_version self.old.replica)) (editable_in self.old name.now item.now unit value) NotBuilt) }
+        ensures after { OnOk result (self.new ≡ with_replica self.old (option_map_or (λ cells. edited self.old.replica item.now cells unit value) (editable_in self.old name.now item.now unit value) self.old.replica)) }
+        ensures err { OnErr result (self.new ≡ self.old) }
     {
         if !self.is_called(name) {
-            return Reply::NotBuilt;
+            return Ok(Reply::NotBuilt);
         }
-        match self.replica.set(item, unit, value) {
-            Some(version) => Reply::Changed(version),
-            None => Reply::NotBuilt,
+        match self.replica.set(alloc, item, unit, value)? {
+            Some(version) => Ok(Reply::Changed(version)),
+            None => Ok(Reply::NotBuilt),
         }
     }
 }

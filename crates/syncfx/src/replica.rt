@@ -1,5 +1,5 @@
 ghost use Rattle.std.specs.Option.{option_copied, option_map, option_map_or};
-ghost use Rattle.std.specs.Prelude.{◌≡◌, ℕ, ◌+◌, if◌then◌else◌, Some, None, ◌<◌, length, IfOk, OnOk, OnErr};
+ghost use Rattle.std.specs.Prelude.{◌≡◌, ℕ, ◌+◌, if◌then◌else◌, Some, None, true, ◌<◌, length, slice_get, IfOk, OnOk, OnErr};
 
 use crate::items::{cells_at, is_free, place_of};
 use crate::word::is_name;
@@ -125,6 +125,7 @@ impl<const U: usize> Replica<U> {
     fn next_created(&self, alloc: Global, values: Vec<Value>) -> Result<Item<U>, Memory>
         requires clock { self.now.clock < MAX_TICK }
         requires whole { length values.items ≡ U }
+        requires named { may_name self.now None (slice_get values.items 0) ≡ true }
         ensures { IfOk result (λ item. item_view item ≡ next_created self.now values.items) }
     {
         let id = ItemId {
@@ -132,7 +133,7 @@ impl<const U: usize> Replica<U> {
             replica: self.id,
         };
         let cells = cells_at(alloc, id.creation(), values)?;
-        let row = Row::new(cells).unwrap();
+        let row = Row::new(alloc, cells)?.unwrap();
         Ok(Item {
             id,
             state: State::Live(row),
@@ -173,14 +174,26 @@ impl<const U: usize> Replica<U> {
     /// Writes a value to one unit of a live item, at the next tick, where the replica may. It may not
     /// where there is no such item or unit, the item is dead, the value for unit 0 is no name or that of
     /// another live item, or the clock cannot rise; nothing changes then.
-    pub fn set(&mut self, id: &ItemId, unit: u64, value: Value) -> Option<Version>
-        ensures made { result ≡ option_map (λ _. next_version self.old) (editable U self.old id.now unit value) }
-        ensures after { self.new ≡ option_map_or (λ cells. edited self.old id.now cells unit value) (editable U self.old id.now unit value) self.old }
+    ///
+    /// # Errors
+    /// `Memory`; nothing has changed then.
+    pub fn set(
+        &mut self,
+        alloc: Global,
+        id: &ItemId,
+        unit: u64,
+        value: Value,
+    ) -> Result<Option<Version>, Memory>
+        ensures made { IfOk result (λ made. made ≡ option_map (λ _. next_version self.old) (editable U self.old id.now unit value)) }
+        ensures after { OnOk result (self.new ≡ option_map_or (λ cells. edited self.old id.now cells unit value) (editable U self.old id.now unit value) self.old) }
+        ensures err { OnErr result (self.new ≡ self.old) }
     {
         if !self.may_edit(id, unit, &value) {
-            return None;
+            return Ok(None);
         }
-        let place = place_of(&self.items, id)?;
+        let Some(place) = place_of(&self.items, id) else {
+            return Ok(None);
+        };
         let unit = UnitId::new(unit as usize).unwrap();
         let version = self.next_version();
         let cell = Cell {
@@ -188,10 +201,12 @@ impl<const U: usize> Replica<U> {
             value,
         };
         let State::Live(row) = &mut self.items[place].state else {
-            return None;
+            return Ok(None);
         };
-        row.put(unit, cell);
+        if !row.put(alloc, unit, cell)? {
+            return Ok(None);
+        }
         self.clock += 1;
-        Some(version)
+        Ok(Some(version))
     }
 }
