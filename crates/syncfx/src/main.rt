@@ -3,6 +3,8 @@
 
 use run::run;
 use sfx_outside::{StdSink, StdSource};
+use status::Status;
+use std::io::ErrorKind;
 use std::process::ExitCode;
 use std::{env, io};
 
@@ -25,13 +27,29 @@ mod text;
 mod values;
 mod word;
 
-fn main(rt: HostRuntime) -> io::Result<ExitCode> {
-    let words = env::args(&rt)?.skip(1).collect(rt.alloc())?;
+fn main(rt: HostRuntime) -> ExitCode {
+    let status = status_of(&rt);
+    if let Some(message) = status.message() {
+        // Where standard error fails, nobody is left to be told.
+        let _told = eprintln!(rt; "{message}");
+    }
+    ExitCode::from(status.number())
+}
+
+/// Runs the program with the words and the ends of the process. Words that are no text are no command.
+fn status_of(rt: &HostRuntime) -> Status {
+    let words = match arguments(rt) {
+        Ok(words) => words,
+        Err(error) if error.kind() == ErrorKind::OutOfMemory => return Status::Memory,
+        Err(_) => return Status::Usage,
+    };
     let mut input = StdSource::new(rt.stdin());
     let mut out = StdSink::new(rt.stdout());
-    let status = run(rt.alloc(), &words, &mut input, &mut out);
-    if let Some(message) = status.message() {
-        eprintln!(rt; "{message}")?;
-    }
-    Ok(ExitCode::from(status.number()))
+    run(rt.alloc(), &words, &mut input, &mut out)
+}
+
+/// The words behind the program's name.
+fn arguments(rt: &HostRuntime) -> io::Result<Vec<String>> {
+    let words = env::args(rt)?.skip(1).collect(rt.alloc())?;
+    Ok(words)
 }
