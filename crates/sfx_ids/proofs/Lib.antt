@@ -12,3 +12,4 @@ pub mod PairFronts
 pub mod IdBytes
 pub mod ItemTexts
 pub mod VersionTexts
+pub mod FrontLens

@@ -5,3 +5,4 @@ pub mod Cut
 pub mod Text
 pub mod Front
 pub mod Steps
+pub mod FrontLen

@@ -1,5 +1,6 @@
 ghost use Rattle.std.specs.Prelude.{◌≡◌, ◌≤◌};
 ghost use Rattle.sfx_ids.specs.Front.{BeginsTick, BeginsReplica, BeginsPair, IsLongestFront};
+ghost use Rattle.sfx_ids.specs.FrontLen.{pair_front};
 ghost use Rattle.sfx_ids.specs.Steps.{next_tick, fits_place};
 ghost use Rattle.sfx_ids.specs.Text.{IsSeparator};
 
@@ -10,7 +11,8 @@ use crate::replica_text::REPLICA_LEN;
 /// this separator.
 pub fn front_len(text: &[u8], separator: u8) -> usize
     requires { IsSeparator separator }
-    ensures { IsLongestFront (BeginsPair separator) text.now result }
+    ensures longest { IsLongestFront (BeginsPair separator) text.now result }
+    ensures decided { result ≡ pair_front separator text.now }
 {
     let digits = tick_front_len(text);
     if digits == 0 || digits == text.len() || text[digits] != separator {

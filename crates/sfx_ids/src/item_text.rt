@@ -1,6 +1,7 @@
 ghost use Rattle.std.specs.Prelude.{◌≡◌, ◌++◌, Ok, OnOk, OnErr, IfOk, IfErr};
 ghost use Rattle.sfx_ids.specs.declared.item_id.ItemId.{ItemId};
 ghost use Rattle.sfx_ids.specs.Front.{BeginsItem, IsLongestFront};
+ghost use Rattle.sfx_ids.specs.FrontLen.{item_front};
 ghost use Rattle.sfx_ids.specs.ItemId.{IsItemId};
 ghost use Rattle.sfx_ids.specs.Text.{item_text};
 
@@ -42,6 +43,7 @@ pub fn parse_item(text: &str) -> Result<ItemId, BadItemId>
     ensures ok { IfOk result (λ id. IsItemId id × (text.now ≡ item_text id)) }
     ensures only { (id : ItemId) → IsItemId id → text.now ≡ item_text id → result ≡ Ok id }
     ensures err { IfErr result (λ bad. IsLongestFront BeginsItem text.now bad.at) }
+    ensures place { IfErr result (λ bad. bad.at ≡ item_front text.now) }
 {
     match read_pair(text, b':') {
         Some(pair) => Ok(ItemId {

@@ -5,7 +5,7 @@ pub use cut::Cut;
 pub use cut_text::{parse_cut, write_cut};
 pub use item_id::ItemId;
 pub use item_text::{BadItemId, parse_item, write_item};
-pub use laws::{cuts_are_ordered, texts_tell_apart};
+pub use laws::{cuts_are_ordered, fronts_are_measured, texts_tell_apart};
 pub use memory::Memory;
 pub use part::Part;
 pub use range::in_range;

@@ -1,6 +1,7 @@
 ghost use Rattle.std.specs.Prelude.{◌≡◌, ◌++◌, Ok, OnOk, OnErr, IfOk, IfErr};
 ghost use Rattle.sfx_ids.specs.declared.version.Version.{Version};
 ghost use Rattle.sfx_ids.specs.Front.{BeginsVersion, IsLongestFront};
+ghost use Rattle.sfx_ids.specs.FrontLen.{version_front};
 ghost use Rattle.sfx_ids.specs.Version.{IsVersion};
 ghost use Rattle.sfx_ids.specs.Text.{version_text};
 
@@ -42,6 +43,7 @@ pub fn parse_version(text: &str) -> Result<Version, BadVersion>
     ensures ok { IfOk result (λ version. IsVersion version × (text.now ≡ version_text version)) }
     ensures only { (version : Version) → IsVersion version → text.now ≡ version_text version → result ≡ Ok version }
     ensures err { IfErr result (λ bad. IsLongestFront BeginsVersion text.now bad.at) }
+    ensures place { IfErr result (λ bad. bad.at ≡ version_front text.now) }
 {
     match read_pair(text, b'@') {
         Some(pair) => Ok(Version {

@@ -1,6 +1,7 @@
 use Rattle.std.proofs.Common.{◌≢◌, ◌<◌, ◌+◌, length, get_or, arith, subst}
 use Rattle.std.proofs.lemmas.List.{take_rest}
 use Rattle.sfx_ids.specs.Front.{BeginsReplica, IsLongestFront}
+use Rattle.sfx_ids.proofs.FrontLens.{pair_decided}
 use Rattle.sfx_ids.proofs.PairFronts.{longest_digits, longest_beyond}
 use Rattle.sfx_ids.proofs.front.front_len.Goals as goal
 use Rattle.sfx_ids.proofs.front.front_len.Goals.{then-digits-eq0-via-then-digits-eq0, then-digits-eq0-via-else-digits-eq0+then-digits-text, then-digits-eq0-via-else-digits-eq0+else-digits-text+then-text-digits}
@@ -13,7 +14,8 @@ returns-then-digits-eq0 c =
       | then-digits-eq0-via-else-digits-eq0+then-digits-text w ↦ absurd (omega (arith, w.if-digits-text.true))
       | then-digits-eq0-via-else-digits-eq0+else-digits-text+then-text-digits w ↦ w.if-text-digits.true
     ] in
-    longest_digits c.args.separator c.args.text.now digits c.requires c.tick_front_len-digits.ensures none
+    let longest = longest_digits c.args.separator c.args.text.now digits c.requires c.tick_front_len-digits.ensures none in
+    record { longest = longest; decided = pair_decided c.args.separator c.args.text.now digits c.requires longest }
 
 pub returns : goal.returns
 returns c =
@@ -22,5 +24,6 @@ returns c =
     let not_end = c.if-digits-text.false in
     let not_start = c.if-digits-eq0.false in
     let rest = subst (λ t. IsLongestFront BeginsReplica t c.replica_front_len.result) (take_rest c.args.text.now (digits + 1)) c.replica_front_len.ensures in
-    longest_beyond c.args.separator c.args.text.now digits c.replica_front_len.result c.requires c.tick_front_len-digits.ensures
-    (omega arith) (omega arith) c.if-text-digits.false rest
+    let longest = longest_beyond c.args.separator c.args.text.now digits c.replica_front_len.result c.requires c.tick_front_len-digits.ensures
+    (omega arith) (omega arith) c.if-text-digits.false rest in
+    record { longest = longest; decided = pair_decided c.args.separator c.args.text.now (digits + 1 + c.replica_front_len.result) c.requires longest }
