@@ -48,19 +48,23 @@ join-append first (second ∷ more) other others =
     ap (λ l. first ++ slash ∷ l) (join-append second more other others)
     ∙ sym (append_assoc first (slash ∷ join_with_byte slash (second ∷ more)) (slash ∷ join_with_byte slash (other ∷ others)))
 
-pub goes_on : (name other : List ℕ) → take (length other) name ≡ other → 0 < length (drop (length other) name) → get_or (drop (length other) name) 0 0 ≡ slash → IsBelow name other
-goes_on name other front some byte =
-    let rest = drop (length other) name in
-    let more = drop 1 rest in
-    let behind : rest ≡ slash ∷ more = get_or-cons rest some ∙ ap (λ b. b ∷ more) byte in
-    let whole : name ≡ other ++ slash ∷ more =
-    sym (take-append-drop (length other) name) ∙ ap (λ l. l ++ rest) front ∙ ap (λ l. other ++ l) behind in
+-- a name that goes on behind another with a slash is below it
+pub bytes_below : (name other more : List ℕ) → name ≡ other ++ slash ∷ more → IsBelow name other
+bytes_below name other more whole =
     let parts = some_component more in
     record {
       first = parts.first;
       more = parts.more;
       split = ap components whole ∙ components-append other more ∙ ap (λ l. components other ++ l) parts.is;
     }
+
+pub goes_on : (name other : List ℕ) → take (length other) name ≡ other → 0 < length (drop (length other) name) → get_or (drop (length other) name) 0 0 ≡ slash → IsBelow name other
+goes_on name other front some byte =
+    let rest = drop (length other) name in
+    let more = drop 1 rest in
+    let behind : rest ≡ slash ∷ more = get_or-cons rest some ∙ ap (λ b. b ∷ more) byte in
+    bytes_below name other more
+    (sym (take-append-drop (length other) name) ∙ ap (λ l. l ++ rest) front ∙ ap (λ l. other ++ l) behind)
 
 -- the bytes of a name below another: the other's, a slash, and more
 pub below_bytes : (name other : List ℕ) → IsBelow name other → (more : List ℕ) × (name ≡ other ++ slash ∷ more)

@@ -1,12 +1,13 @@
 -- The places at which something is wrong, from what the tests of bytes say.
-use Rattle.std.proofs.Common.{◌≡◌, ◌≢◌, ◌⊎◌, ℕ, suc, zero, ◌+◌, ◌-◌, ◌/◌, ◌%◌, ◌<◌, ◌≤◌, Bool, true, false, nat_lt, List, [], ◌∷◌, ◌++◌, length, get_or, take, drop, refl, sym, ap, subst, inl, inr, arith, ◌∙◌, append_assoc}
+use Rattle.std.proofs.Common.{◌≡◌, ◌≢◌, ◌⊎◌, ℕ, suc, zero, ◌+◌, ◌-◌, ◌/◌, ◌%◌, ◌<◌, ◌≤◌, Bool, true, false, cond, nat_lt, List, [], ◌∷◌, ◌++◌, length, get_or, take, drop, refl, sym, ap, subst, inl, inr, arith, ◌∙◌, append_assoc}
 use Rattle.std.proofs.lemmas.Bool.Decides.{nat_tests}
 use Rattle.std.proofs.lemmas.List.{length-take-le, take-append-drop, take-take, get_or-take, get_or-drop, length-append, get_or-append-add, get_or_append_left, take_more}
 use Rattle.std.proofs.Math.Seq.{drop-cons}
 use Rattle.std.proofs.Math.Utf8.{encode, low_scalar}
-use Rattle.std.proofs.lemmas.Str.{IsUtf8-nil, IsUtf8-append, IsUtf8-encode, IsUtf8-take, IsCharBoundary-after_ascii, encode_ascii, length-encode, len_utf8_bounds}
+use Rattle.std.proofs.lemmas.Str.{IsUtf8-nil, IsUtf8-append, IsUtf8-encode, IsUtf8-take, IsCharBoundary-after_ascii, encode_ascii, length-encode, len_utf8_bounds, IsUtf8-from_is_utf8, is_utf8-from_IsUtf8, utf8_valid_len_le}
 use Rattle.std.specs.Bool.{Decides}
-use Rattle.std.specs.Str.{IsUtf8, IsValidUpTo, IsCharBoundary}
+use Rattle.std.specs.Str.{IsUtf8, IsValidUpTo, IsCharBoundary, is_utf8}
+use Rattle.std.specs.Str.Lossy.{valid_len_up_to, utf8_valid_len}
 use Rattle.sfx_item.specs.Faults.{IsTextUpTo, HasControlBytes, IsControlAt, IsImproperAt}
 use Rattle.sfx_item.specs.Name.{slash, IsControl, IsImproper, EndsWithSlash, BeginsWithSlash, IsName, IsWrongAt, IsFirstWrong}
 use Rattle.sfx_item.specs.Name.IsWrongAt.{improper, control, no_text, too_long}
@@ -95,6 +96,29 @@ same_end bytes n at text valid =
     let above : n ≤ at = elim (lt_or_le at n) [ inl less ↦ absurd (valid.longest n less text.text) | inr le ↦ le ] in
     let same : at ≡ n = omega arith in
     (subst (λ m. m < length bytes) same valid.short, same)
+
+-- the length that std computes
+longest_text : (bytes : List ℕ) (n : ℕ) → IsUtf8 (take (valid_len_up_to bytes n) bytes) × ((m : ℕ) → m ≤ n → IsUtf8 (take m bytes) → m ≤ valid_len_up_to bytes n)
+longest_text bytes zero = (IsUtf8-nil, λ m within utf8. within)
+longest_text bytes (suc n) = by_test (is_utf8 (take (suc n) bytes)) refl (longest_text bytes n)
+  where
+    by_test : (t : Bool) → is_utf8 (take (suc n) bytes) ≡ t → IsUtf8 (take (valid_len_up_to bytes n) bytes) × ((m : ℕ) → m ≤ n → IsUtf8 (take m bytes) → m ≤ valid_len_up_to bytes n) → IsUtf8 (take (cond t (suc n) (valid_len_up_to bytes n)) bytes) × ((m : ℕ) → m ≤ suc n → IsUtf8 (take m bytes) → m ≤ cond t (suc n) (valid_len_up_to bytes n))
+    by_test true is rest = (IsUtf8-from_is_utf8 (take (suc n) bytes) is, λ m within utf8. within)
+    by_test false is rest = (
+      rest.0,
+      λ m within utf8. elim (lt_or_le n m) [
+        | inr le ↦ rest.1 m le utf8
+        | inl above ↦
+            let top : m ≡ suc n = omega arith in
+            absurd (let yes = is_utf8-from_IsUtf8 (take (suc n) bytes) (subst (λ k. IsUtf8 (take k bytes)) top utf8) in cc)
+      ],
+    )
+
+pub text_length : (bytes : List ℕ) → IsTextUpTo bytes (utf8_valid_len bytes)
+unfolding utf8_valid_len
+text_length bytes =
+    let longest = longest_text bytes (length bytes) in
+    record { within = utf8_valid_len_le bytes; text = longest.0; longest = longest.1 }
 
 -- the front up to a place at which a character may begin is text
 front_text : (bytes : List ℕ) (n at : ℕ) → IsTextUpTo bytes n → at ≤ n → IsCharBoundary (take n bytes) at → IsUtf8 (take at bytes)

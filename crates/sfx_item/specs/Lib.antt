@@ -1,4 +1,5 @@
 pub mod Clash
+pub mod Decided
 pub mod Faults
 pub mod Name
 pub mod Row

@@ -1,4 +1,4 @@
-ghost use Rattle.std.specs.Prelude.{◌≡◌, IfOk};
+ghost use Rattle.std.specs.Prelude.{◌≡◌, ◌↔◌, IsTrue, IfOk};
 
 use crate::Value;
 use sfx_ids::{Memory, Version};
@@ -12,6 +12,13 @@ pub struct Cell {
 }
 
 impl Cell {
+    /// Whether both hold the same value at the same version.
+    pub fn same(&self, other: &Self) -> bool
+        ensures { IsTrue result ↔ (self.now ≡ other.now) }
+    {
+        self.version == other.version && self.value.same(&other.value)
+    }
+
     /// An equal cell. The one error is want of memory.
     pub fn copy(&self, alloc: Global) -> Result<Self, Memory>
         ensures { IfOk result (λ copy. copy ≡ self.now) }

@@ -1,12 +1,14 @@
 ghost use Rattle.std.specs.Prelude.{◌≡◌, ◌<◌, ◌↔◌, length, slice_index, IsTrue};
 ghost use Rattle.sfx_item.specs.Clash.{Clash, IsBelow};
+ghost use Rattle.sfx_item.specs.Decided.{is_clash};
 ghost use Rattle.sfx_item.specs.Name.{slash};
 
 use crate::Name;
 
 /// Whether the names are equal, or the components of one are those of the other and some more.
 pub fn clashes(a: &Name, b: &Name) -> bool
-    ensures { IsTrue result ↔ Clash a.now b.now }
+    ensures clash { IsTrue result ↔ Clash a.now b.now }
+    ensures decided { result ≡ is_clash a.now b.now }
 {
     a.bytes() == b.bytes() || is_below(a.bytes(), b.bytes()) || is_below(b.bytes(), a.bytes())
 }

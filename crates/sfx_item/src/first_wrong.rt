@@ -1,4 +1,5 @@
 ghost use Rattle.std.specs.Prelude.{◌≡◌, ◌≢◌, ℕ, ◌<◌, ◌≤◌, ◌-◌, ◌⊎◌, ◌↔◌, length, slice_index, IsTrue, IfSome, IfNone};
+ghost use Rattle.sfx_item.specs.Decided.{name_fault};
 ghost use Rattle.sfx_item.specs.Faults.{HasControlBytes, IsControlAt, IsImproperAt, IsTextUpTo};
 ghost use Rattle.sfx_item.specs.Name.{IsFirstWrong, IsImproper, IsName, IsWrongAt, slash};
 
@@ -9,6 +10,7 @@ pub const MAX_NAME_LEN: usize = 255;
 pub fn first_wrong(bytes: &[u8]) -> Option<usize>
     ensures wrong { IfSome result (λ at. IsFirstWrong bytes.now at) }
     ensures name { IfNone result (IsName bytes.now) }
+    ensures decided { result ≡ name_fault bytes.now }
 {
     let text_len = text_len(bytes);
     for at in 0..bytes.len() + 1 {

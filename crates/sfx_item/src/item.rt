@@ -1,4 +1,4 @@
-ghost use Rattle.std.specs.Prelude.{◌≡◌, IfOk};
+ghost use Rattle.std.specs.Prelude.{◌≡◌, ◌↔◌, IsTrue, IfOk};
 
 use crate::State;
 use sfx_ids::{ItemId, Memory, UnitId, Version};
@@ -22,6 +22,13 @@ impl<const U: usize> Item<U> {
             State::Live(row) => row.cell(unit).version,
             State::Dead(version) => *version,
         }
+    }
+
+    /// Whether both are the same item in the same state.
+    pub fn same(&self, other: &Self) -> bool
+        ensures { IsTrue result ↔ (self.now ≡ other.now) }
+    {
+        self.id == other.id && self.state.same(&other.state)
     }
 
     /// An equal item.

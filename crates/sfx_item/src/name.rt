@@ -1,4 +1,6 @@
-ghost use Rattle.std.specs.Prelude.{◌≡◌, IfOk, IfErr};
+ghost use Rattle.std.specs.Prelude.{◌≡◌, ◌↔◌, ℕ, Some, Err, IfOk, IfErr};
+ghost use Rattle.sfx_item.specs.Decided.{name_fault};
+ghost use Rattle.sfx_item.specs.declared.name_fault.NameFault.TheVariants.{BadName};
 ghost use Rattle.sfx_item.specs.Name.{IsFaultOf, IsName};
 
 use crate::NameFault;
@@ -32,6 +34,7 @@ impl Name {
     pub fn read(alloc: Global, bytes: &[u8]) -> Result<Name, NameFault>
         ensures ok { IfOk result (λ name. IsName bytes.now × (name ≡ bytes.now)) }
         ensures err { IfErr result (λ fault. IsFaultOf bytes.now fault) }
+        ensures decided { (at : ℕ) → (result ≡ Err (BadName at)) ↔ (name_fault bytes.now ≡ Some at) }
     {
         match first_wrong(bytes) {
             Some(at) => Err(NameFault::BadName(at)),

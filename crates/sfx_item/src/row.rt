@@ -1,4 +1,3 @@
-ghost use Rattle.std.specs.Option.{option_copied};
 ghost use Rattle.std.specs.Prelude.{◌≡◌, ℕ, ◌<◌, ◌↔◌, if◌then◌else◌, List, Some, length, slice_get, slice_set, IsSome, IsTrue, IfSome, IfOk, OnErr};
 ghost use Rattle.sfx_item.specs.Name.{IsName};
 ghost use Rattle.sfx_item.specs.Row.{IsRow, first_value};
@@ -103,6 +102,18 @@ impl<const U: usize> Row<U> {
         self.name = name;
         self.cells[0] = cell;
         Ok(true)
+    }
+
+    /// Whether the cells of both are the same, unit by unit.
+    pub fn same(&self, other: &Self) -> bool
+        ensures { IsTrue result ↔ (self.now ≡ other.now) }
+    {
+        for (i, cell) in self.cells.iter().enumerate() {
+            if !cell.same(&other.cells[i]) {
+                return false;
+            }
+        }
+        true
     }
 
     /// An equal row.

@@ -1,4 +1,4 @@
-ghost use Rattle.std.specs.Prelude.{◌≡◌, IfOk};
+ghost use Rattle.std.specs.Prelude.{◌≡◌, ◌↔◌, IsTrue, IfOk};
 
 use crate::Row;
 use sfx_ids::{Memory, Version};
@@ -12,6 +12,17 @@ pub enum State<const U: usize> {
 }
 
 impl<const U: usize> State<U> {
+    /// Whether both are live with the same cells, or tombstones at the same version.
+    pub fn same(&self, other: &Self) -> bool
+        ensures { IsTrue result ↔ (self.now ≡ other.now) }
+    {
+        match (self, other) {
+            (State::Live(row), State::Live(other)) => row.same(other),
+            (State::Dead(version), State::Dead(other)) => version == other,
+            _ => false,
+        }
+    }
+
     /// An equal state.
     ///
     /// # Errors

@@ -46,6 +46,42 @@ fn keeps_a_cell_for_each_unit(rt: HostRuntime) -> Result<(), Fail> {
     Ok(())
 }
 
+fn live(alloc: Global, version: Version, name: &str) -> Result<State<1>, Fail> {
+    let cells = vec![in alloc; cell(alloc, version, name)?]?;
+    let row = Row::new(alloc, cells)?.ok_or("a row")?;
+    Ok(State::Live(row))
+}
+
+#[test]
+fn tells_items_apart(rt: HostRuntime) -> Result<(), Fail> {
+    let alloc = rt.alloc();
+    let replica = ReplicaId::new(10);
+    let tick = Tick::new(3).ok_or("a tick")?;
+    let first = Version { replica, tick };
+    let later = Version {
+        replica,
+        tick: Tick::new(4).ok_or("a tick")?,
+    };
+    let id = ItemId { tick, replica };
+    let mut items = Vec::new(alloc);
+    for state in [
+        live(alloc, first, "x")?,
+        live(alloc, first, "y")?,
+        live(alloc, later, "x")?,
+        State::Dead(first),
+        State::Dead(later),
+    ] {
+        items.push(Item { id, state })?;
+    }
+    for (i, item) in items.iter().enumerate() {
+        for (j, other) in items.iter().enumerate() {
+            assert_eq!(rt; item.same(other), i == j);
+        }
+        assert!(rt; item.same(&item.copy(alloc)?));
+    }
+    Ok(())
+}
+
 #[test]
 fn says_where_a_name_goes_wrong(rt: HostRuntime) -> Result<(), Fail> {
     let long = vec![in rt.alloc(); b'a'; 260]?;

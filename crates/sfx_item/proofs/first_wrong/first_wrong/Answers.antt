@@ -1,5 +1,6 @@
-use Rattle.std.proofs.Common.{below_more, arith}
+use Rattle.std.proofs.Common.{below_more, arith, sym}
 use Rattle.sfx_item.specs.Name.{IsWrongAt}
+use Rattle.sfx_item.proofs.Decisions.{fault_decided, name_decided}
 use Rattle.sfx_item.proofs.Places.{first_place, is_name}
 use Rattle.sfx_item.proofs.first_wrong.first_wrong.Goals as goal
 
@@ -15,3 +16,9 @@ loop-at-preserved c =
 pub returns-clause-name : goal.returns-clause-name
 returns-clause-name c =
     is_name c.args.bytes.now c.text_len-text_len.result c.text_len-text_len.ensures (λ k less. c.loop-at.invariant k (omega arith))
+
+pub returns-then-is_wrong_at-clause-decided : goal.returns-then-is_wrong_at-clause-decided
+returns-then-is_wrong_at-clause-decided c = sym ((fault_decided c.args.bytes.now c.loop-at.at).1 (returns-then-is_wrong_at-clause-wrong c))
+
+pub returns-clause-decided : goal.returns-clause-decided
+returns-clause-decided c = sym ((name_decided c.args.bytes.now).1 (returns-clause-name c))
