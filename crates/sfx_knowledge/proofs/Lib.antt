@@ -1,0 +1,9 @@
+pub mod Compares
+pub mod Clocks
+pub mod RowForms
+pub mod Known
+pub mod Making
+pub mod Starts
+pub mod Ranged
+pub mod SkipForms
+pub mod Forgets
