@@ -24,6 +24,7 @@ pub mod Widening
 pub mod Shapes
 pub mod Keeping
 pub mod Communities
+pub mod Acts
 pub mod Turns
 pub mod Placing
 pub mod Refusals

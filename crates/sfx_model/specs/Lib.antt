@@ -9,3 +9,5 @@ pub mod Agreement
 pub mod States
 pub mod Examples
 pub mod Snapshots
+pub mod Items
+pub mod Consistent

@@ -3,22 +3,13 @@ use Rattle.sfx_ids.specs.declared.cut.Cut.{Cut}
 use Rattle.sfx_ids.specs.declared.cut.Cut.TheVariants.{At}
 use Rattle.sfx_ids.specs.declared.item_id.ItemId.{ItemId}
 use Rattle.sfx_ids.specs.declared.version.Version.{Version}
-use Rattle.sfx_ids.specs.Cut.{cut_le}
+use Rattle.sfx_vector.specs.Clocks.{tick_of}
+use Rattle.sfx_knowledge.specs.Knowledge.{Known, tick_at}
+use Rattle.sfx_knowledge.specs.Forgotten.{Forgets, fvec}
 use Rattle.sfx_item.specs.declared.cell.Cell.{Cell}
 use Rattle.sfx_model.specs.Sets.{Has}
 use Rattle.sfx_model.specs.World.{Written, Record, Site, World, Holding, holding, IsAt, Made, IsLatest, IsDeadAt, IsContained}
 use Rattle.sfx_model.specs.Events.{same_item}
-
--- A clock vector: pairs of a replica and a tick, ascending by replica; a replica that is not listed has
--- the tick 0.
-abbrev pub Clocks : Type 0
-Clocks = List (ℕ × ℕ)
-
--- One clock vector for each unit: `base` at every unit but those of `others`, which are listed with
--- their own.
-pub record UnitRow : Type 0 where
-  pub base : Clocks
-  pub others : List (ℕ × Clocks)
 
 -- What a replica holds of a present item: a cell for each unit of a live one, and the version of the
 -- deletion for a dead one, a tombstone.
@@ -36,50 +27,18 @@ pub record MemberItem : Type 0 where
 pub record Member : Type 0 where
   pub id : ℕ
   pub clock : ℕ
-  pub knowledge : List (Cut × UnitRow)
-  pub forgotten : List (Cut × Clocks)
+  pub knowledge : Known
+  pub forgotten : Forgets
   pub items : List MemberItem
-
--- The vector's tick for the replica.
-abbrev pub tick_of : Clocks → ℕ → ℕ
-tick_of [] r = 0
-tick_of (c ∷ cs) r = if nat_eq c.0 r then c.1 else tick_of cs r
-
--- The vector that the list has for the unit, or else the given one.
-abbrev pub unit_clocks : Clocks → List (ℕ × Clocks) → ℕ → Clocks
-unit_clocks base [] u = base
-unit_clocks base (o ∷ os) u = if nat_eq o.0 u then o.1 else unit_clocks base os u
-
--- The vector of the row at the unit.
-abbrev pub row_at : UnitRow → ℕ → Clocks
-row_at row u = unit_clocks row.base row.others u
-
--- The value of the last segment that begins no later than the place, and the given one where there is
--- none.
-abbrev pub segment_at : {A : Type 0} → A → List (Cut × A) → Cut → A
-segment_at before [] place = before
-segment_at before (p ∷ ps) place = if cut_le p.0 place then segment_at p.1 ps place else before
-
--- The row of a replica that knows nothing.
-abbrev pub no_row : UnitRow
-no_row = record { base = []; others = [] }
-
--- The vector that the knowledge has at the place, for the unit.
-abbrev pub clocks_at : List (Cut × UnitRow) → Cut → ℕ → Clocks
-clocks_at knowledge place u = row_at (segment_at no_row knowledge place) u
 
 -- What the member knows at the place of the unit: a tick for each replica, that of its own being its
 -- clock.
 abbrev pub vector_at : Member → Cut → ℕ → ℕ → ℕ
-vector_at m place u r = if nat_eq r m.id then m.clock else tick_of (clocks_at m.knowledge place u) r
+vector_at m place u r = if nat_eq r m.id then m.clock else tick_at m.knowledge place u r
 
 -- Whether the member's knowledge of the cell contains the version.
 abbrev pub contains : Member → ItemId → ℕ → Version → Bool
 contains m i u v = nat_le v.tick (vector_at m (At i) u v.replica)
-
--- The forgotten deletions at the place.
-abbrev pub fvec : List (Cut × Clocks) → Cut → Clocks
-fvec forgotten place = segment_at [] forgotten place
 
 -- What a replica's state says of a world: its clock, at each place and unit what it knows, at each place
 -- what it has forgotten, and its present items. Two states that say the same are alike here, however

@@ -1,8 +1,8 @@
 use Rattle.std.specs.Prelude.{◌≡◌, ◌≢◌, ℕ, [], Some}
 use Rattle.sfx_ids.specs.declared.cut.Cut.{Cut}
-use Rattle.sfx_model.specs.World.{Site, World}
-use Rattle.sfx_model.specs.Events.{Event, Units, Widen, Join, Make, Clean, Forget, Apply, Learn, site_of}
-use Rattle.sfx_model.specs.Members.{Shown, Represents}
+use Rattle.sfx_model.specs.World.{Site, World, WellFormed}
+use Rattle.sfx_model.specs.Events.{Event, Units, Widen, Join, Make, Clean, Forget, Apply, Learn, site_of, after, Legal}
+use Rattle.sfx_model.specs.Members.{Shown, Member, Represents, AreRising, shown}
 
 -- The replica with this id has a site, and the state represents it.
 abbrev pub RepresentsReplica : World → ℕ → Shown → Type 0
@@ -28,3 +28,11 @@ pub record IsNewMember (id : ℕ) (m : Shown) : Type 0 where
   pub vectors : (place : Cut) (u r : ℕ) → m.vector_at place u r ≡ 0
   pub forgotten : (place : Cut) (r : ℕ) → m.forgotten place r ≡ 0
   pub items : m.items ≡ []
+
+-- The event may happen in the world, the world after it is well-formed, and there the replica with this
+-- id has a site that the state represents, with its items in order.
+pub record ActsIn (w : World) (event : Event) (r : ℕ) (m : Member) : Type 0 where
+  pub legal : Legal w event
+  pub well_formed : WellFormed (after w event)
+  pub represents : RepresentsReplica (after w event) r (shown m)
+  pub rising : AreRising m.items

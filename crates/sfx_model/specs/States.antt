@@ -8,7 +8,10 @@ use Rattle.sfx_item.specs.declared.cell.Cell.{Cell}
 use Rattle.sfx_model.specs.Sets.{Has}
 use Rattle.sfx_model.specs.World.{Content, Written, Deleted, World, WellFormed}
 use Rattle.sfx_model.specs.Events.{Event, Units, Widen, Join, Make, Clean, Forget, Apply, Learn, after, Legal, same_item}
-use Rattle.sfx_model.specs.Members.{ItemState, Live, MemberItem, Member, NamedMember, Community, RepresentsWorld, clocks_at, tick_of, fvec}
+use Rattle.sfx_model.specs.Members.{ItemState, Live, MemberItem, Member, NamedMember, Community, RepresentsWorld}
+use Rattle.sfx_vector.specs.Clocks.{tick_of}
+use Rattle.sfx_knowledge.specs.Knowledge.{tick_at}
+use Rattle.sfx_knowledge.specs.Forgotten.{fvec}
 
 -- The event may happen in the world, the world after it is well-formed, and the state represents
 -- it.
@@ -78,7 +81,7 @@ cells_at v values = map (λ value. record { version = v; value = value }) values
 abbrev pub KnowsOthersAlike : Member → Member → Type 0
 KnowsOthersAlike m n =
     (place : Cut) (u r : ℕ) → r ≢ m.id →
-    tick_of (clocks_at n.knowledge place u) r ≡ tick_of (clocks_at m.knowledge place u) r
+    tick_at n.knowledge place u r ≡ tick_at m.knowledge place u r
 
 -- The member m becomes n as its replica makes a version: its clock rises by one, what it knows of
 -- others and has forgotten stays, and these are its items.
@@ -130,7 +133,7 @@ deleted_contents units u = if nat_lt u units then Some Deleted else None
 pub record IsNewState (id : ℕ) (m : Member) : Type 0 where
   pub id_is : m.id ≡ id
   pub clock : m.clock ≡ 0
-  pub knowledge : (place : Cut) (u r : ℕ) → r ≢ id → tick_of (clocks_at m.knowledge place u) r ≡ 0
+  pub knowledge : (place : Cut) (u r : ℕ) → r ≢ id → tick_at m.knowledge place u r ≡ 0
   pub forgotten : (place : Cut) (r : ℕ) → tick_of (fvec m.forgotten place) r ≡ 0
   pub items : m.items ≡ []
 

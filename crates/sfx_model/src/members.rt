@@ -7,7 +7,7 @@ ghost use Rattle.sfx_item.specs.declared.cell.Cell.{Cell};
 ghost use Rattle.sfx_model.specs.Events.{Apply, Clean, Event, Forget, Join, Learn, Legal, Make, UnitMark, Units, after};
 ghost use Rattle.sfx_model.specs.Headline.{DeletionsAreRespected, EqualKnowledgeMeansEqualItems, FactsHold, KnowledgeIsExact};
 ghost use Rattle.sfx_model.specs.Members.{AreRising, Community, Dead, ItemRepresents, ItemState, Live, Member, Represents, RepresentsWorld, Shown, shown, state_of};
-ghost use Rattle.sfx_model.specs.Replica.{IsNewMember, IsOfOthers, RepresentsReplica};
+ghost use Rattle.sfx_model.specs.Replica.{ActsIn, IsNewMember, IsOfOthers, RepresentsReplica};
 ghost use Rattle.sfx_model.specs.Results.{Backs, BacksForgotten, BacksRange, CleanResult, EditResult, EntryResult, ForgetResult, LearnResult};
 ghost use Rattle.sfx_model.specs.Sets.{Has};
 ghost use Rattle.sfx_model.specs.States.{ChangesMember, Continues, IsNewState, IsOf, IsUntaken, Rises, cells_with, created_contents, deleted_contents, edited_contents, member_named, next_created, next_item, next_version, with_added, with_changed, with_item, with_state};
@@ -75,6 +75,33 @@ pub fn members_stand()
         WellFormed w → Legal w (Learn r s lo hi left) → RepresentsReplica w r m →
         BacksRange w s lo hi made_with → LearnResult lo hi left made_with m n →
         RepresentsReplica (after w (Learn r s lo hi left)) r n }
+{}
+
+/// What an edit of a replica does to every well-formed world in which its state represents its site, as
+/// a law: the event is one that may happen, the world after it is well-formed, and the new state
+/// represents the site there. It does nothing when called.
+///
+/// The state m becomes n by its next version: with one more item (`created`), with a value written to
+/// one unit of a live item (`edited`), or with a live item deleted (`deleted`).
+pub fn edits_act()
+    ensures created { (w : World) (m n : Member) (values : List (List ℕ)) →
+        WellFormed w → RepresentsReplica w m.id (shown m) → AreRising m.items →
+        m.clock < max_tick → length values ≡ w.units →
+        Rises m n (with_item (next_created m values) m.items) →
+        ActsIn w (Make m.id (next_item m) (next_version m) (created_contents values)) m.id n }
+    ensures edited { (w : World) (m n : Member) (i : ItemId) (unit : ℕ) (value : List ℕ)
+        (cells : List Cell) →
+        WellFormed w → RepresentsReplica w m.id (shown m) → AreRising m.items →
+        m.clock < max_tick → unit < w.units →
+        state_of m.items i ≡ Some (Live cells) →
+        Rises m n (with_state i (Live (cells_with m cells unit value)) m.items) →
+        ActsIn w (Make m.id i (next_version m) (edited_contents unit value)) m.id n }
+    ensures deleted { (w : World) (m n : Member) (i : ItemId) (cells : List Cell) →
+        WellFormed w → RepresentsReplica w m.id (shown m) → AreRising m.items →
+        m.clock < max_tick →
+        state_of m.items i ≡ Some (Live cells) →
+        Rises m n (with_state i (Dead (next_version m)) m.items) →
+        ActsIn w (Make m.id i (next_version m) (deleted_contents w.units)) m.id n }
 {}
 
 /// What the lines of a script do to a state of all members that represents a well-formed world, as
