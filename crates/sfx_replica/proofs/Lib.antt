@@ -1,0 +1,4 @@
+pub mod Places
+pub mod Comparing
+pub mod Refusing
+pub mod Consistency

@@ -1,0 +1,143 @@
+-- A replica's items as plain data: where one stands, what it is, and what they are with another state for
+-- it or with one more.
+use Rattle.std.proofs.Common.{◌≡◌, ℕ, suc, ◌+◌, ◌<◌, ◌≤◌, Bool, true, false, Option, Some, None, List, [], ◌∷◌, length, get_or, set, slice_set, if◌then◌else◌, inl, inr, refl, sym, ap, ◌∙◌, arith, cond}
+use Rattle.std.proofs.lemmas.Bool.{cases_lt}
+use Rattle.std.specs.List.{insert, position_from}
+use Rattle.sfx_ids.specs.declared.item_id.ItemId.{ItemId}
+use Rattle.sfx_ids.specs.declared.version.Version.{Version}
+use Rattle.sfx_item.specs.declared.cell.Cell.{Cell}
+use Rattle.sfx_item.specs.declared.item.Item.{Item}
+use Rattle.sfx_item.specs.declared.state.State.{State}
+use Rattle.sfx_item.specs.declared.state.State.TheVariants.{Live as LiveRow, Dead as Tombstone}
+use Rattle.sfx_model.specs.Events.{same_item}
+use Rattle.sfx_model.specs.Members.{ItemState, Live, MemberItem, state_of}
+use Rattle.sfx_model.specs.Items.{item_view, items_view, state_view}
+use Rattle.sfx_replica.specs.Items.{place_for}
+use Rattle.sfx_model.specs.States.{is_id_below, with_item, with_state}
+use Rattle.sfx_model.proofs.Steps.{same_item_is}
+
+abbrev pub has_id : {U : ℕ} → ItemId → Item U → Bool
+has_id i x = same_item x.id i
+
+-- the item with this id stands at place j
+pub record IsPlace {U : ℕ} (xs : List (Item U)) (i : ItemId) (j : ℕ) : Type 0 where
+  pub inside : j < length xs
+  pub state : (d : Item U) → state_of (items_view xs) i ≡ Some (state_view (get_or xs j d).state)
+  pub id : (d : Item U) → (get_or xs j d).id ≡ i
+  pub put : (d y : Item U) → y.id ≡ (get_or xs j d).id → items_view (set xs j y) ≡ with_state i (state_view y.state) (items_view xs)
+
+abbrev placed_item : ItemId → ItemState → MemberItem
+placed_item id state = record { id = id; state = state }
+
+pub place_found : {U : ℕ} (xs : List (Item U)) (i : ItemId) (n k : ℕ) → position_from (has_id i) n xs ≡ Some k
+    → (j : ℕ) × (k ≡ n + j) × IsPlace xs i j
+place_found [] i n k e = absurd (cc)
+place_found {U} (x ∷ xs) i n k e = by_test (place_found xs i (n + 1) k) (same_item x.id i) refl e where
+  by_test : (position_from (has_id i) (n + 1) xs ≡ Some k → (j : ℕ) × (k ≡ n + 1 + j) × IsPlace xs i j)
+      → (b : Bool) → same_item x.id i ≡ b → cond b (Some n) (position_from (has_id i) (n + 1) xs) ≡ Some k
+      → (j : ℕ) × (k ≡ n + j) × IsPlace (x ∷ xs) i j
+  by_test rest true test e =
+      let here : n ≡ k = cc in (
+        0,
+        omega (arith, here),
+        record {
+          inside = omega arith;
+          state = λ d. rw test refl;
+          id = λ d. same_item_is x.id i test;
+          put = λ d y same. rw test (let made : placed_item y.id (state_view y.state) ≡ placed_item x.id (state_view y.state) = rw same refl in ap (λ (z : MemberItem). z ∷ items_view xs) made);
+        },
+      )
+  by_test rest false test e =
+      let found = rest e in
+      let at = found.1 in
+      let is = found.2 in (
+        suc found.0,
+        omega (arith, at),
+        record {
+          inside = let low = is.inside in omega (arith, low);
+          state = λ d. rw test (is.state d);
+          id = is.id;
+          put = λ d y same. rw test (ap (λ (zs : List MemberItem). item_view x ∷ zs) (is.put d y same));
+        },
+      )
+
+pub place_none : {U : ℕ} (xs : List (Item U)) (i : ItemId) (n : ℕ) → position_from (has_id i) n xs ≡ None → state_of (items_view xs) i ≡ None
+place_none [] i n e = refl
+place_none (x ∷ xs) i n e = by_test (place_none xs i (n + 1)) (same_item x.id i) refl e where
+  by_test : (position_from (has_id i) (n + 1) xs ≡ None → state_of (items_view xs) i ≡ None)
+      → (b : Bool) → same_item x.id i ≡ b → cond b (Some n) (position_from (has_id i) (n + 1) xs) ≡ None
+      → state_of (items_view (x ∷ xs)) i ≡ None
+  by_test rest true test e = absurd (cc)
+  by_test rest false test e = rw test (rest e)
+
+-- the place of a new item is within the list
+pub place_within : {U : ℕ} (i : ItemId) (xs : List (Item U)) → place_for i (items_view xs) ≤ length xs
+place_within i [] = omega arith
+place_within i (x ∷ xs) = by_test (place_within i xs) (is_id_below x.id i) refl where
+  by_test : place_for i (items_view xs) ≤ length xs → (b : Bool) → is_id_below x.id i ≡ b → place_for i (items_view (x ∷ xs)) ≤ length (x ∷ xs)
+  by_test rest true below = rw below (omega (arith, rest))
+  by_test rest false below = rw below (omega arith)
+
+-- an item put there is in its place by id
+pub inserted_view : {U : ℕ} (item : Item U) (xs : List (Item U))
+    → items_view (insert xs (place_for item.id (items_view xs)) item) ≡ with_item (item_view item) (items_view xs)
+inserted_view item [] = refl
+inserted_view {U} item (x ∷ xs) = by_test (inserted_view item xs) (is_id_below x.id item.id) refl where
+  by_test : items_view (insert xs (place_for item.id (items_view xs)) item) ≡ with_item (item_view item) (items_view xs)
+      → (b : Bool) → is_id_below x.id item.id ≡ b
+      → items_view (insert (x ∷ xs) (place_for item.id (items_view (x ∷ xs))) item) ≡ with_item (item_view item) (items_view (x ∷ xs))
+  by_test rest true below = rw below (ap (λ (zs : List MemberItem). item_view x ∷ zs) rest)
+  by_test rest false below = rw below refl
+
+-- what a search answers is the place
+pub at_place : {U : ℕ} (xs ys : List (Item U)) (i : ItemId) (k : ℕ) (r : Option ℕ)
+    → ys ≡ xs → r ≡ position_from (has_id i) 0 ys → r ≡ Some k → IsPlace xs i k
+at_place xs ys i k r same searched found =
+    let first : position_from (has_id i) 0 xs ≡ Some k = rw (← same) (sym searched ∙ found) in
+    let place = place_found xs i 0 k first in
+    let at : place.0 ≡ k = let e = place.1 in omega (arith, e) in
+    rw (← at) place.2
+
+-- an item that is not found is not there
+pub not_there : {U : ℕ} (xs ys : List (Item U)) (i : ItemId) (r : Option ℕ)
+    → ys ≡ xs → r ≡ position_from (has_id i) 0 ys → r ≡ None → state_of (items_view xs) i ≡ None
+not_there xs ys i r same searched none = place_none xs i 0 (rw (← same) (sym searched ∙ none))
+
+-- the item that stands there: its state and its id
+pub state_there : {U : ℕ} (xs : List (Item U)) (i : ItemId) (k : ℕ) (old : Item U)
+    → IsPlace xs i k → old ≡ get_or xs k old → state_of (items_view xs) i ≡ Some (state_view old.state)
+state_there xs i k old place is = place.state old ∙ ap (λ (x : Item _). Some (state_view x.state)) (sym is)
+
+pub id_there : {U : ℕ} (xs : List (Item U)) (i : ItemId) (k : ℕ) (old : Item U)
+    → IsPlace xs i k → old ≡ get_or xs k old → old.id ≡ i
+id_there xs i k old place is = ap (λ (x : Item _). x.id) is ∙ place.id old
+
+-- an item that stands there and is no tombstone is live
+pub live_there : {U : ℕ} (xs : List (Item U)) (i : ItemId) (k : ℕ) (old : Item U)
+    → IsPlace xs i k → old ≡ get_or xs k old → ((v : Version) → old.state ≡ Tombstone v → ⊥)
+    → (cells : List Cell) × (state_of (items_view xs) i ≡ Some (Live cells))
+live_there {U} xs i k old place is alive = by_state old.state refl where
+  by_state : (s : State U) → old.state ≡ s → (cells : List Cell) × (state_of (items_view xs) i ≡ Some (Live cells))
+  by_state (LiveRow cells) e = (cells, state_there xs i k old place is ∙ ap (λ (s : State U). Some (state_view s)) e)
+  by_state (Tombstone v) e = absurd (alive v e)
+
+-- an item put back with other cells has another state in its place
+pub edited_view : {U : ℕ} (xs : List (Item U)) (i : ItemId) (k : ℕ) (old y : Item U) (cells : List Cell)
+    → IsPlace xs i k → old ≡ get_or xs k old → y.id ≡ old.id → state_view y.state ≡ Live cells
+    → items_view (set xs k y) ≡ with_state i (Live cells) (items_view xs)
+edited_view {U} xs i k old y cells place is same live =
+    let put = place.put old y (same ∙ ap (λ (x : Item U). x.id) is) in
+    rw live at put
+
+-- what is not below is not less
+pub past_from : (k u : ℕ) → (k < u → false ≡ true) → u ≤ k
+past_from k u never = elim (cases_lt k u) [
+  | inl less ↦ let bad = never less in absurd (cc)
+  | inr past ↦ past
+]
+
+-- the cells after a put that was done
+pub put_cells : (cells after : List Cell) (unit k : ℕ) (cell new : Cell) (done : Bool)
+    → after ≡ (if done then slice_set cells unit cell else cells) → done ≡ true → unit ≡ k → cell ≡ new
+    → after ≡ slice_set cells k new
+put_cells cells after unit k cell new done put is same made = rw (is, same, made) at put

@@ -1,0 +1,63 @@
+-- When an edit of a replica is refused, and why: the first cause in the stated order.
+use Rattle.std.specs.Prelude.{◌≡◌, ◌⊎◌, ℕ, if◌then◌else◌, nat_eq, nat_lt, List, Option, Some, None, Result, Ok, Err, slice_get}
+use Rattle.std.specs.Option.{option_map}
+use Rattle.sfx_ids.specs.declared.item_id.ItemId.{ItemId}
+use Rattle.sfx_ids.specs.Tick.{max_tick}
+use Rattle.sfx_item.specs.Decided.{name_fault}
+use Rattle.sfx_model.specs.Members.{ItemState, Live, Dead, Member, state_of}
+use Rattle.sfx_replica.specs.declared.edit_fault.EditFault.{EditFault}
+use Rattle.sfx_replica.specs.declared.edit_fault.EditFault.TheVariants.{NoItem, Deleted, BadUnit, BadName, Clash, ClockFull, Memory}
+use Rattle.sfx_replica.specs.Clashes.{first_clash}
+
+-- The answer agrees with what refuses the edit: it is Ok exactly where nothing does, and else this
+-- refusal. Want of memory may come in the place of either.
+abbrev pub Refuses : {A : Type 0} → Result A EditFault → Option EditFault → Type 0
+Refuses (Ok x) refusal = refusal ≡ None
+Refuses (Err fault) refusal = (fault ≡ Memory) ⊎ (refusal ≡ Some fault)
+
+-- The first of both refusals.
+abbrev pub or_next : Option EditFault → Option EditFault → Option EditFault
+or_next (Some fault) next = Some fault
+or_next None next = next
+
+-- The bytes are no name.
+abbrev pub bad_name : List ℕ → Option EditFault
+bad_name name = option_map (λ at. BadName at) (name_fault name)
+
+-- Another live item's name clashes with this one.
+abbrev pub clash : Member → Option ItemId → List ℕ → Option EditFault
+clash m except name = option_map (λ i. Clash i) (first_clash name except m.items)
+
+-- The clock cannot rise.
+abbrev pub full_clock : Member → Option EditFault
+full_clock m = if nat_lt m.clock max_tick then None else Some (ClockFull m.clock)
+
+-- The value may not name an item, which is the excepted one where there is one.
+abbrev pub name_refusal : Member → Option ItemId → List ℕ → Option EditFault
+name_refusal m except name = or_next (bad_name name) (clash m except name)
+
+-- The same of the value for unit 0, where there is one.
+abbrev pub first_name_refusal : Member → Option (List ℕ) → Option EditFault
+first_name_refusal m None = None
+first_name_refusal m (Some name) = name_refusal m None name
+
+-- An item with these values may not be created.
+abbrev pub create_refusal : Member → List (List ℕ) → Option EditFault
+create_refusal m values = or_next (first_name_refusal m (slice_get values 0)) (full_clock m)
+
+-- The value may not be written to the unit of a live item.
+abbrev pub write_refusal : ℕ → Member → ItemId → ℕ → List ℕ → Option EditFault
+write_refusal units m i unit value =
+    if nat_lt unit units then
+    or_next (if nat_eq unit 0 then name_refusal m (Some i) value else None) (full_clock m)
+    else Some (BadUnit unit units)
+
+-- The value may not be written to the unit of an item in this state.
+abbrev pub state_refusal : ℕ → Member → ItemId → ℕ → List ℕ → Option ItemState → Option EditFault
+state_refusal units m i unit value None = Some NoItem
+state_refusal units m i unit value (Some (Dead version)) = Some Deleted
+state_refusal units m i unit value (Some (Live cells)) = write_refusal units m i unit value
+
+-- The value may not be written to the unit of the item.
+abbrev pub set_refusal : ℕ → Member → ItemId → ℕ → List ℕ → Option EditFault
+set_refusal units m i unit value = state_refusal units m i unit value (state_of m.items i)

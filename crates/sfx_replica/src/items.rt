@@ -1,0 +1,71 @@
+//! The list of a replica's items, which are in order of their ids.
+ghost use Rattle.std.specs.Prelude.{◌≡◌, IfOk, OnOk, OnErr, option_map};
+ghost use Rattle.std.specs.List.{position_from};
+ghost use Rattle.sfx_model.specs.Events.{same_item};
+ghost use Rattle.sfx_model.specs.Items.{item_view, items_view};
+ghost use Rattle.sfx_model.specs.States.{cells_at, with_item};
+ghost use Rattle.sfx_replica.specs.Items.{first_from, place_for};
+
+use sfx_ids::{Cut, ItemId, Memory, Version};
+use sfx_item::{Cell, Item, Value};
+use std::alloc::{AllocError, Global};
+
+/// Where the item with this id stands.
+pub fn place_of<const U: usize>(items: &[Item<U>], id: &ItemId) -> Option<usize>
+    ensures { result ≡ position_from (λ x. same_item x.id id.now) 0 items.now }
+{
+    for (place, item) in items.iter().enumerate() {
+        if item.id == *id {
+            return Some(place);
+        }
+    }
+    None
+}
+
+/// The first item whose place is not before this one.
+pub fn first_from<'a, const U: usize>(items: &'a [Item<U>], from: &Cut) -> Option<&'a Item<U>>
+    ensures { option_map (λ x. item_view x.now) result ≡ first_from from.now (items_view items.now) }
+{
+    for item in items {
+        if *from <= Cut::At(item.id) {
+            return Some(item);
+        }
+    }
+    None
+}
+
+/// How many items stand before the place of a new one with this id.
+fn place_for<const U: usize>(items: &[Item<U>], id: &ItemId) -> usize
+    ensures { result ≡ place_for id.now (items_view items.now) }
+{
+    for (place, item) in items.iter().enumerate() {
+        if item.id >= *id {
+            return place;
+        }
+    }
+    items.len()
+}
+
+/// Puts one more item in its place by id.
+pub fn insert<const U: usize>(items: &mut Vec<Item<U>>, item: Item<U>) -> Result<(), Memory>
+    ensures ok { OnOk result (items_view items.new.items ≡ with_item (item_view item.entry) (items_view items.old.items)) }
+    ensures err { OnErr result (items.new.items ≡ items.old.items) }
+{
+    let place = place_for(items.as_slice(), &item.id);
+    items.insert(place, item)?;
+    Ok(())
+}
+
+/// A cell for each value, all of one version.
+pub fn cells_at(
+    alloc: Global,
+    version: Version,
+    values: Vec<Value>,
+) -> Result<Vec<Cell>, AllocError>
+    ensures { IfOk result (λ cells. cells.items ≡ cells_at version values.items) }
+{
+    values
+        .into_iter()
+        .map(|value| Cell { version, value })
+        .collect(alloc)
+}

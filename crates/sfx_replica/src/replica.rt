@@ -1,0 +1,284 @@
+ghost use Rattle.std.specs.Option.{option_copied, option_map, option_map_or};
+ghost use Rattle.std.specs.Prelude.{◌≡◌, ◌≤◌, ◌↔◌, if◌then◌else◌, nat_eq, Some, None, length, IsTrue, IfOk, OnOk, OnErr, IfSome};
+
+use crate::EditFault;
+use crate::clashes::{clashing, first_clash};
+use crate::items::{cells_at, first_from, insert, place_of};
+use crate::live::same_live;
+use sfx_ids::{Cut, ItemId, MAX_TICK, Memory, ReplicaId, Tick, UnitId, Version};
+use sfx_item::{Cell, Item, Name, NameFault, Row, State, Value};
+use sfx_knowledge::{Forgotten, Knowledge};
+use std::alloc::Global;
+use std::marker::Model;
+
+/// A replica whose items have `U` change units: its clock, which is the tick of the last version that it
+/// made; what it knows, its own versions apart; the deletions that it has forgotten; and the items that it
+/// holds, in order of their ids.
+#[derive(Drop)]
+pub struct Replica<const U: usize> {
+    id: ReplicaId,
+    clock: u64,
+    knowledge: Knowledge<U>,
+    forgotten: Forgotten,
+    items: Vec<Item<U>>,
+}
+
+impl<const U: usize> Model for Replica<U> {
+    ghost use Rattle.sfx_model.specs.Members.{Member};
+    ghost use Rattle.sfx_model.specs.Items.{items_view};
+    ghost use Rattle.sfx_model.specs.Consistent.{IsConsistent};
+    ghost use Rattle.sfx_replica.specs.Replica.{member_view};
+
+    ghost Value = { Member };
+
+    ghost view = { λ r. member_view r.id r.clock r.knowledge r.forgotten r.items.items };
+
+    ghost invariant = { λ r. IsConsistent U (member_view r.id r.clock r.knowledge r.forgotten r.items.items) };
+}
+
+impl<const U: usize> Replica<U> {
+    ghost use Rattle.sfx_knowledge.specs.Forms.{with_own};
+    ghost use Rattle.sfx_knowledge.specs.Knowledge.{HasTicks, IsKnowledge};
+    ghost use Rattle.sfx_model.specs.Consistent.{IsConsistent};
+    ghost use Rattle.sfx_model.specs.Events.{Make};
+    ghost use Rattle.sfx_model.specs.Headline.{live_items};
+    ghost use Rattle.sfx_model.specs.Items.{item_view, items_view, state_view};
+    ghost use Rattle.sfx_model.specs.Members.{contains, shown, state_of, vector_at};
+    ghost use Rattle.sfx_model.specs.Replica.{ActsIn, RepresentsReplica};
+    ghost use Rattle.sfx_model.specs.States.{created_contents, edited_contents, next_created, next_item, next_version};
+    ghost use Rattle.sfx_model.specs.World.{WellFormed, World};
+    ghost use Rattle.sfx_replica.specs.Clashes.{clashing_with};
+    ghost use Rattle.sfx_replica.specs.Edits.{created, edited, new_member};
+    ghost use Rattle.sfx_replica.specs.Items.{first_from};
+    ghost use Rattle.sfx_replica.specs.Refusals.{Refuses, create_refusal, full_clock, name_refusal, or_next, set_refusal};
+
+    /// A replica that has made, learned and forgotten nothing.
+    ///
+    /// # Errors
+    /// `Memory`.
+    pub fn new(alloc: Global, id: ReplicaId) -> Result<Self, Memory>
+        requires { 1 ≤ U }
+        ensures { IfOk result (λ replica. replica ≡ new_member id) }
+    {
+        Ok(Replica {
+            id,
+            clock: 0,
+            knowledge: Knowledge::none(alloc)?,
+            forgotten: Forgotten::none(alloc),
+            items: Vec::new(alloc),
+        })
+    }
+
+    /// The id under which the replica makes its versions.
+    pub fn id(&self) -> ReplicaId
+        ensures value { result ≡ self.now.id }
+        ensures consistent { IsConsistent U self.now }
+    {
+        self.id
+    }
+
+    /// The tick of the last version that the replica made, 0 before the first.
+    pub fn clock(&self) -> u64
+        ensures { result ≡ self.now.clock }
+    {
+        self.clock
+    }
+
+    /// The deletions that the replica has forgotten.
+    pub fn forgotten(&self) -> &Forgotten
+        ensures { result.now ≡ self.now.forgotten }
+    {
+        &self.forgotten
+    }
+
+    /// What the replica knows, its own versions apart.
+    pub fn stored(&self) -> &Knowledge<U>
+        ensures { result.now ≡ self.now.knowledge }
+    {
+        &self.knowledge
+    }
+
+    /// What the replica knows, its own versions included: its own entry is its clock everywhere.
+    ///
+    /// # Errors
+    /// `Memory`.
+    pub fn knowledge(&self, alloc: Global) -> Result<Knowledge<U>, Memory>
+        ensures ticks { IfOk result (λ k. HasTicks U k (vector_at self.now)) }
+        ensures list { IfOk result (λ k. k ≡ with_own U self.now.id self.now.clock self.now.knowledge) }
+        ensures form { IfOk result (λ k. IsKnowledge U k) }
+    {
+        self.knowledge.with_own(alloc, &self.id, self.clock)
+    }
+
+    /// Whether the replica's knowledge of the item's unit contains the version.
+    pub fn knows(&self, id: &ItemId, unit: UnitId<U>, version: &Version) -> bool
+        ensures { result ≡ contains self.now id.now unit.entry version.now }
+    {
+        if version.replica == self.id {
+            version.tick.get() <= self.clock
+        } else {
+            self.knowledge.contains(id, unit, version)
+        }
+    }
+
+    /// The items that the replica holds, tombstones included, in order of their ids.
+    pub fn items(&self) -> &[Item<U>]
+        ensures { items_view result.now ≡ self.now.items }
+    {
+        self.items.as_slice()
+    }
+
+    /// The item with this id, or `None` where the replica holds none.
+    pub fn item(&self, id: &ItemId) -> Option<&Item<U>>
+        ensures state { option_map (λ x. state_view x.now.state) result ≡ state_of self.now.items id.now }
+        ensures same { IfSome result (λ x. x.now.id ≡ id.now) }
+    {
+        let place = place_of(self.items.as_slice(), id)?;
+        Some(&self.items[place])
+    }
+
+    /// The first item whose place is not before `from`, or `None` where there is none.
+    pub fn next_from(&self, from: &Cut) -> Option<&Item<U>>
+        ensures { option_map (λ x. item_view x.now) result ≡ first_from from.now self.now.items }
+    {
+        first_from(self.items.as_slice(), from)
+    }
+
+    /// The ids of the live items but the excepted one whose names clash with this one, ascending.
+    ///
+    /// # Errors
+    /// `Memory`.
+    pub fn clashing(
+        &self,
+        alloc: Global,
+        name: &Name,
+        except: Option<ItemId>,
+    ) -> Result<Vec<ItemId>, Memory>
+        ensures { IfOk result (λ ids. ids.items ≡ clashing_with name.now except self.now.items) }
+    {
+        Ok(clashing(alloc, self.items.as_slice(), name, except.as_ref())?)
+    }
+
+    /// Whether both replicas hold the same live items, with the same ids, versions and values.
+    pub fn same_live(&self, other: &Replica<U>) -> bool
+        ensures { IsTrue result ↔ (live_items self.now.items ≡ live_items other.now.items) }
+    {
+        same_live(self.items.as_slice(), other.items.as_slice())
+    }
+
+    /// Creates an item with these values, one for each unit, at the next tick.
+    ///
+    /// # Errors
+    /// `BadName` where the value for unit 0 is no name, `Clash` where that name clashes with a live
+    /// item's, `ClockFull`, and `Memory`. Nothing has changed then.
+    pub fn create(&mut self, values: Vec<Value>) -> Result<ItemId, EditFault>
+        requires whole { length values.items ≡ U }
+        ensures refused { Refuses result (create_refusal self.old values.items) }
+        ensures made { IfOk result (λ id. id ≡ next_item self.old) }
+        ensures after { OnOk result (self.new ≡ created self.old values.items) }
+        ensures err { OnErr result (self.new ≡ self.old) }
+        ensures acts { OnOk result ((w : World) → WellFormed w → w.units ≡ U → RepresentsReplica w self.old.id (shown self.old) → ActsIn w (Make self.old.id (next_item self.old) (next_version self.old) (created_contents values.items)) self.old.id self.new) }
+    {
+        let alloc = *self.items.allocator();
+        self.check_name(values[0].bytes(), None)?;
+        let version = self.next_version()?;
+        let id = ItemId {
+            tick: version.tick,
+            replica: version.replica,
+        };
+        let row = Row::new(alloc, cells_at(alloc, version, values)?)?.unwrap();
+        let item = Item {
+            id,
+            state: State::Live(row),
+        };
+        insert(&mut self.items, item)?;
+        self.clock += 1;
+        Ok(id)
+    }
+
+    /// Writes a value to one unit of a live item, at the next tick. A value that is equal to the unit's
+    /// makes a new version, too.
+    ///
+    /// # Errors
+    /// `NoItem` and `Deleted` by what the replica holds under the id, `BadUnit` where there is no such
+    /// unit; for unit 0 `BadName` where the value is no name, and `Clash` where it clashes with the name
+    /// of another live item; `ClockFull`, and `Memory`. Nothing has changed then.
+    pub fn set(&mut self, id: &ItemId, k: usize, value: Value) -> Result<Version, EditFault>
+        ensures refused { Refuses result (set_refusal U self.old id.now k value) }
+        ensures made { IfOk result (λ version. version ≡ next_version self.old) }
+        ensures after { OnOk result (self.new ≡ edited self.old id.now k value) }
+        ensures err { OnErr result (self.new ≡ self.old) }
+        ensures acts { OnOk result ((w : World) → WellFormed w → w.units ≡ U → RepresentsReplica w self.old.id (shown self.old) → ActsIn w (Make self.old.id id.now (next_version self.old) (edited_contents k value)) self.old.id self.new) }
+    {
+        let Some(place) = place_of(self.items.as_slice(), id) else {
+            return Err(EditFault::NoItem);
+        };
+        if let State::Dead(_) = &self.items[place].state {
+            return Err(EditFault::Deleted);
+        }
+        let Some(unit) = UnitId::new(k) else {
+            return Err(EditFault::BadUnit { k, u: U });
+        };
+        let cell = self.next_cell(id, k, value)?;
+        let version = cell.version;
+        let alloc = *self.items.allocator();
+        let State::Live(row) = &mut self.items[place].state else {
+            return Err(EditFault::Deleted);
+        };
+        row.put(alloc, unit, cell)?;
+        self.clock += 1;
+        Ok(version)
+    }
+
+    /// The cell that is written next to the unit of the item.
+    fn next_cell(&self, id: &ItemId, k: usize, value: Value) -> Result<Cell, EditFault>
+        ensures refused { Refuses result (or_next (if nat_eq k 0 then name_refusal self.now (Some id.now) value else None) (full_clock self.now)) }
+        ensures value { IfOk result (λ cell. cell ≡ (record { version = next_version self.now; value = value })) }
+    {
+        self.check_value(id, k, &value)?;
+        Ok(Cell {
+            version: self.next_version()?,
+            value,
+        })
+    }
+
+    /// Refuses a value that may not be written to the unit of the item: for unit 0 one that may not
+    /// name it.
+    fn check_value(&self, id: &ItemId, k: usize, value: &Value) -> Result<(), EditFault>
+        ensures { Refuses result (if nat_eq k 0 then name_refusal self.now (Some id.now) value.now else None) }
+    {
+        if k != 0 {
+            return Ok(());
+        }
+        self.check_name(value.bytes(), Some(id))
+    }
+
+    /// Refuses a value that may not name an item, which is the excepted one where there is one.
+    fn check_name(&self, name: &[u8], except: Option<&ItemId>) -> Result<(), EditFault>
+        ensures { Refuses result (name_refusal self.now (option_copied except.entry) name.now) }
+    {
+        let name = match Name::read(*self.items.allocator(), name) {
+            Ok(name) => name,
+            Err(NameFault::BadName(at)) => return Err(EditFault::BadName(at)),
+            Err(NameFault::Memory) => return Err(EditFault::Memory),
+        };
+        match first_clash(self.items.as_slice(), &name, except) {
+            Some(id) => Err(EditFault::Clash(id)),
+            None => Ok(()),
+        }
+    }
+
+    /// The version that is made next.
+    fn next_version(&self) -> Result<Version, EditFault>
+        ensures refused { Refuses result (full_clock self.now) }
+        ensures value { IfOk result (λ version. version ≡ next_version self.now) }
+    {
+        if self.clock >= MAX_TICK {
+            return Err(EditFault::ClockFull(self.clock));
+        }
+        Ok(Version {
+            replica: self.id,
+            tick: Tick::new(self.clock + 1).unwrap(),
+        })
+    }
+}
