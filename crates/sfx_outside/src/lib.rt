@@ -1,4 +1,4 @@
-//! Where a program reads from and writes to: sources and sinks, in memory and of the process.
+//! Where a program reads from and writes to: sources and sinks, in memory and of the process; and texts.
 #![tactic(auto)]
 
 pub use failed::Failed;
@@ -11,6 +11,7 @@ pub use sink_fault::SinkFault;
 pub use source::Source;
 pub use std_sink::StdSink;
 pub use std_source::StdSource;
+pub use text::Text;
 pub use writing::write_all;
 
 mod calls;
@@ -26,4 +27,5 @@ mod std_sink;
 mod std_source;
 #[cfg(test)]
 mod tests;
+mod text;
 mod writing;

@@ -1,4 +1,6 @@
-use crate::{MemorySink, MemorySource, ReadFault, Sink, SinkFault, Source, read_to_end, write_all};
+use crate::{
+    MemorySink, MemorySource, ReadFault, Sink, SinkFault, Source, Text, read_to_end, write_all,
+};
 use std::alloc::{AllocError, Global};
 use std::test::Fail;
 
@@ -61,5 +63,15 @@ fn writes_whole_pieces(rt: HostRuntime) -> Result<(), Fail> {
     assert_eq!(rt; out.held(), b"cre".as_slice());
     assert_eq!(rt; write_text(&mut out), Ok(()));
     assert_eq!(rt; out.held(), b"crecreate".as_slice());
+    Ok(())
+}
+
+#[test]
+fn keeps_texts(rt: HostRuntime) -> Result<(), Fail> {
+    let alloc = rt.alloc();
+    let text = Text::new(String::from_str(alloc, "\u{E9}1")?);
+    let other = Text::new(String::from_str(alloc, "\u{E9}2")?);
+    assert_eq!(rt; text.copy(alloc)?.as_str(), "\u{E9}1");
+    assert!(rt; text == text.copy(alloc)? && text != other);
     Ok(())
 }
