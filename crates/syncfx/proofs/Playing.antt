@@ -7,7 +7,7 @@ use Rattle.std.specs.Result.{is_err}
 use Rattle.sfx_outside.specs.Sink.{Adds, AddsFront}
 use Rattle.sfx_model.specs.Members.{Community}
 use Rattle.syncfx.specs.declared.reply.Reply.{Reply}
-use Rattle.syncfx.specs.Line.{is_passed, lines_of}
+use Rattle.sfx_script.specs.Script.{is_passed, lines_of}
 use Rattle.syncfx.specs.Reply.{is_refusal, reply_text}
 use Rattle.syncfx.specs.Run.{has_refusal, replies_text}
 use Rattle.syncfx.specs.Turn.{Turns, turn, turns}

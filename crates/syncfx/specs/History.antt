@@ -1,10 +1,8 @@
 -- What a script does in the world.
-use Rattle.std.specs.Prelude.{◌≡◌, List, [], ◌∷◌}
 use Rattle.sfx_model.specs.Events.{after_deeds, AreLegalDeeds}
 use Rattle.sfx_model.specs.Headline.{FactsHold}
-use Rattle.sfx_model.specs.Members.{Community, NamedMember, RepresentsWorld}
+use Rattle.sfx_model.specs.Members.{Community, RepresentsWorld}
 use Rattle.sfx_model.specs.World.{World, WellFormed}
-use Rattle.syncfx.specs.Replica.{own_knowledge}
 use Rattle.syncfx.specs.Turn.{Turns}
 
 -- What a script did from this state happened in the world. Its deeds were legal, one after another; the
@@ -16,8 +14,3 @@ pub record HasHappened (w : World) (c : Community) (t : Turns) : Type 0 where
   pub represents : RepresentsWorld (after_deeds w t.deeds) t.community
   pub facts_before : FactsHold w c
   pub facts_afterwards : FactsHold (after_deeds w t.deeds) t.community
-
--- Each member knows its own versions alone.
-abbrev pub AreOwn : List NamedMember → Type 0
-AreOwn [] = Unit {0}
-AreOwn (m ∷ ms) = (m.member.knowledge ≡ own_knowledge m.member.id m.member.clock) × AreOwn ms

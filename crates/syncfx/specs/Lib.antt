@@ -1,11 +1,8 @@
-pub mod Word
-pub mod Replica
-pub mod Items
-pub mod Line
 pub mod Listing
+pub mod Comparing
 pub mod Reply
+pub mod Members
 pub mod Turn
-pub mod Community
 pub mod Status
 pub mod Run
 pub mod History

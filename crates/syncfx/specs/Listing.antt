@@ -1,38 +1,39 @@
 -- The text that shows a replica.
-use Rattle.std.specs.Prelude.{ℕ, List, [], ◌∷◌, ◌++◌, codes, decimal, map}
-use Rattle.std.specs.List.{flat_map, join_with_byte}
+use Rattle.std.specs.Prelude.{ℕ, List, [], ◌++◌, if◌then◌else◌, codes, decimal}
+use Rattle.std.specs.List.{flat_map}
 use Rattle.sfx_ids.specs.declared.cut.Cut.{Cut}
 use Rattle.sfx_ids.specs.declared.cut.Cut.TheVariants.{Start}
 use Rattle.sfx_ids.specs.Text.{cut_text, item_text, replica_text, version_text}
 use Rattle.sfx_item.specs.declared.cell.Cell.{Cell}
-use Rattle.sfx_model.specs.Members.{Clocks, UnitRow, ItemState, Live, Dead, MemberItem, NamedMember, fvec}
+use Rattle.sfx_vector.specs.Clocks.{Clocks}
+use Rattle.sfx_knowledge.specs.Row.{UnitClocks}
+use Rattle.sfx_knowledge.specs.Knowledge.{Known}
+use Rattle.sfx_knowledge.specs.Forgotten.{fvec}
+use Rattle.sfx_knowledge.specs.Forms.{same_clocks, with_own}
+use Rattle.sfx_model.specs.Members.{ItemState, Live, Dead, Member, MemberItem, NamedMember}
+use Rattle.sfx_script.specs.Printed.{value_text, vector_text}
 
--- the code of `,`
-abbrev pub comma : ℕ
-comma = 44
-
--- One entry of a clock vector: the replica, `=` and its tick.
-abbrev pub entry_text : ℕ × ℕ → List ℕ
-entry_text entry = replica_text entry.0 ++ codes "=" ++ decimal entry.1
-
--- A clock vector: its entries, joined by commas, or `-` where it is empty.
-abbrev pub vector_text : Clocks → List ℕ
-vector_text [] = codes "-"
-vector_text (entry ∷ entries) = join_with_byte comma (map entry_text (entry ∷ entries))
+-- What the member knows, its own versions included.
+abbrev pub all_known : ℕ → Member → Known
+all_known units m = with_own units m.id m.clock m.knowledge
 
 -- The vector of a unit that differs from unit 0.
 abbrev pub other_text : ℕ × Clocks → List ℕ
 other_text other = codes " unit " ++ decimal other.0 ++ codes " " ++ vector_text other.1
 
+-- The vector of a unit, where it differs from that of unit 0.
+abbrev pub unit_text : Clocks → ℕ × Clocks → List ℕ
+unit_text base other = if same_clocks other.1 base then [] else other_text other
+
 -- One segment of knowledge: where it begins, the vector of unit 0, and those of the units that differ.
-abbrev pub segment_text : Cut × UnitRow → List ℕ
+abbrev pub segment_text : Cut × UnitClocks → List ℕ
 segment_text segment =
     codes "know " ++ cut_text segment.0 ++ codes " " ++ vector_text segment.1.base
     ++ flat_map other_text segment.1.others ++ codes "\n"
 
--- One cell: its version, `=` and its value, which prints as it is.
+-- One cell: its version, `=` and its value.
 abbrev pub cell_text : Cell → List ℕ
-cell_text cell = codes " " ++ version_text cell.version ++ codes "=" ++ cell.value
+cell_text cell = codes " " ++ version_text cell.version ++ codes "=" ++ value_text cell.value
 
 -- An item live with its cells, or dead at its version.
 abbrev pub state_text : ItemState → List ℕ
@@ -43,18 +44,20 @@ state_text (Dead version) = codes " dead " ++ version_text version
 abbrev pub item_line : MemberItem → List ℕ
 item_line item = codes "item " ++ item_text item.id ++ state_text item.state ++ codes "\n"
 
--- The line that names a replica.
+-- The line that names a replica, with its id and clock.
+abbrev pub named_text : List ℕ → ℕ → ℕ → List ℕ
+named_text name id clock =
+    codes "replica " ++ name ++ codes " " ++ replica_text id ++ codes " plain clock=" ++ decimal clock ++ codes "\n"
+
 abbrev pub header_text : NamedMember → List ℕ
-header_text m =
-    codes "replica " ++ m.name ++ codes " " ++ replica_text m.member.id ++ codes " plain clock="
-    ++ decimal m.member.clock ++ codes "\n"
+header_text m = named_text m.name m.member.id m.member.clock
 
 -- The line of the deletions that were forgotten.
 abbrev pub forgotten_text : NamedMember → List ℕ
 forgotten_text m = codes "forgotten " ++ vector_text (fvec m.member.forgotten Start) ++ codes "\n"
 
 -- All of a replica: its name, id and clock, what it has forgotten, what it knows, and its items.
-abbrev pub listing : NamedMember → List ℕ
-listing m =
-    header_text m ++ forgotten_text m ++ flat_map segment_text m.member.knowledge
+abbrev pub listing : ℕ → NamedMember → List ℕ
+listing units m =
+    header_text m ++ forgotten_text m ++ flat_map segment_text (all_known units m.member)
     ++ flat_map item_line m.member.items ++ codes "end\n"

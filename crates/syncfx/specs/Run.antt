@@ -1,9 +1,10 @@
 -- What a run of a script writes.
-use Rattle.std.specs.Prelude.{ℕ, Bool, false, List, [], ◌∷◌, codes}
+use Rattle.std.specs.Prelude.{ℕ, Bool, false, List, [], ◌∷◌, Option, Some, None, codes}
 use Rattle.std.specs.List.{flat_map, list_any}
+use Rattle.std.specs.Borrow.{Bor}
 use Rattle.std.specs.Str.{bytes_eq}
 use Rattle.syncfx.specs.declared.reply.Reply.{Reply}
-use Rattle.syncfx.specs.Line.{lines_of}
+use Rattle.sfx_script.specs.Script.{lines_of}
 use Rattle.syncfx.specs.Reply.{is_refusal, reply_text}
 use Rattle.syncfx.specs.Turn.{Turns, empty_community, turns}
 
@@ -28,3 +29,8 @@ played script = turns empty_community (lines_of script)
 -- What playing the script writes.
 abbrev pub played_text : List ℕ → List ℕ
 played_text script = replies_text (played script).replies
+
+-- The lines that are left to run, where some are.
+abbrev pub lines_left : Option (Bor (List ℕ)) → List (List ℕ)
+lines_left None = []
+lines_left (Some script) = lines_of script.now

@@ -1,18 +1,26 @@
 -- What the lines of a script do: a reply, what happens in the world, and the state afterwards.
-use Rattle.std.specs.Prelude.{ℕ, ◌==◌, ◌&&◌, if◌then◌else◌, not, Option, Some, None, List, [], ◌∷◌, ◌++◌, length, nat_eq, nat_lt}
-use Rattle.std.specs.Str.{bytes_eq}
+use Rattle.std.specs.Prelude.{ℕ, Bool, ◌==◌, ◌||◌, if◌then◌else◌, Option, Some, None, Ok, Err, List, [], ◌∷◌, ◌++◌, length, nat_eq, nat_lt}
 use Rattle.sfx_ids.specs.declared.item_id.ItemId.{ItemId}
 use Rattle.sfx_ids.specs.declared.version.Version.{Version}
 use Rattle.sfx_model.specs.Events.{Deed, Own, Units, Join, Make}
-use Rattle.sfx_model.specs.Members.{ItemState, Live, Dead, Member, NamedMember, Community, contains, state_of}
-use Rattle.syncfx.specs.declared.line.Line.{Line}
-use Rattle.syncfx.specs.declared.line.Line.TheVariants.{Units as UnitsLine, Replica, Create, Set, Show, Knows}
-use Rattle.syncfx.specs.declared.reply.Reply.{Reply}
-use Rattle.syncfx.specs.declared.reply.Reply.TheVariants.{Done, Created, Changed, Known, Shown, NotBuilt}
-use Rattle.syncfx.specs.Line.{is_passed, line_of}
+use Rattle.sfx_model.specs.Members.{Member, NamedMember, Community, contains}
+use Rattle.sfx_model.specs.States.{created_contents, edited_contents, next_item, next_version, with_added, with_member}
+use Rattle.sfx_replica.specs.declared.edit_fault.EditFault.{EditFault}
+use Rattle.sfx_replica.specs.declared.edit_fault.EditFault.TheVariants.{BadUnit}
+use Rattle.sfx_replica.specs.Edits.{created, edited, new_member}
+use Rattle.sfx_replica.specs.Refusals.{create_refusal, set_refusal}
+use Rattle.sfx_script.specs.declared.line.Line.{Line}
+use Rattle.sfx_script.specs.declared.line.Line.TheVariants as lines
+use Rattle.sfx_script.specs.Reading.{Read, reading_of}
+use Rattle.sfx_script.specs.Script.{is_passed}
+use Rattle.sfx_script.specs.Wrong.{place_of}
+use Rattle.syncfx.specs.Comparing.{hold_same, know_same}
 use Rattle.syncfx.specs.Listing.{listing}
-use Rattle.sfx_model.specs.States.{created_contents, edited_contents, next_item, next_version, with_member}
-use Rattle.syncfx.specs.Replica.{created, edited, may_create, may_edit, new_member}
+use Rattle.syncfx.specs.Members.{has_id, has_name, member_of}
+use Rattle.syncfx.specs.declared.reason.Reason.{Reason}
+use Rattle.syncfx.specs.declared.reason.Reason.TheVariants.{Syntax, NotBuilt, BadUnits, UnitsSet, NoUnits, NameTaken, IdTaken, NoReplica, BadCount, Edit}
+use Rattle.syncfx.specs.declared.reply.Reply.{Reply}
+use Rattle.syncfx.specs.declared.reply.Reply.TheVariants.{Done, Created, Changed, Known, Compared, Shown, Refused}
 
 -- What comes of one line.
 pub record Turn : Type 0 where
@@ -24,18 +32,13 @@ pub record Turn : Type 0 where
 abbrev pub empty_community : Community
 empty_community = record { units = 0; members = [] }
 
--- A line is refused: nothing happens, and nothing changes.
-abbrev pub refused : Community → Turn
-refused c = record { reply = NotBuilt; deeds = []; community = c }
-
--- A line that asks: it is answered, and nothing changes.
+-- A line that is answered: nothing happens, and nothing changes.
 abbrev pub answered : Community → Reply → Turn
 answered c reply = record { reply = reply; deeds = []; community = c }
 
--- The member with this name.
-abbrev pub member_of : List NamedMember → List ℕ → Option NamedMember
-member_of [] name = None
-member_of (m ∷ ms) name = if bytes_eq m.name name then Some m else member_of ms name
+-- A line that is refused.
+abbrev pub refused : Community → Reason → Turn
+refused c reason = answered c (Refused reason)
 
 -- A line that changes one member.
 abbrev pub changed : Community → Reply → Deed → NamedMember → Member → Turn
@@ -45,78 +48,103 @@ changed c reply deed m member = record {
   community = record { units = c.units; members = with_member m.name member c.members };
 }
 
--- `units 2` sets the unit count, once.
+-- Items can have this many units.
+abbrev pub is_unit_count : ℕ → Bool
+is_unit_count n = nat_eq n 1 || (nat_eq n 2 || (nat_eq n 4 || nat_eq n 8))
+
+-- `units` sets the unit count, once. Two units are built.
 abbrev pub units_turn : Community → ℕ → Turn
 units_turn c n =
-    if nat_eq n 2 && nat_eq c.units 0 then
+    if is_unit_count n then
+    (if nat_eq n 2 then
+    (if nat_eq c.units 0 then
     record { reply = Done; deeds = Own (Units n) ∷ []; community = record { units = n; members = c.members } }
-    else refused c
+    else refused c UnitsSet)
+    else refused c NotBuilt)
+    else refused c (BadUnits n)
 
--- `replica` adds a replica that has made nothing, where there are units, and none was added yet.
+-- `replica` adds a replica that has made nothing, under a new name and id.
 abbrev pub replica_turn : Community → List ℕ → ℕ → Turn
 replica_turn c name id =
-    if not (nat_eq c.units 0) && (length c.members == 0) then
-    record {
+    if nat_eq c.units 0 then refused c NoUnits
+    else if has_name name c.members then refused c NameTaken
+    else if has_id id c.members then refused c IdTaken
+    else record {
       reply = Done;
       deeds = Own (Join name id) ∷ [];
-      community = record { units = c.units; members = record { name = name; member = new_member id } ∷ [] };
+      community = with_added name (new_member id) c;
     }
-    else refused c
 
--- `create` makes an item of these values, where the replica may.
-abbrev pub create_turn : Community → Option NamedMember → List (List ℕ) → Turn
-create_turn c None values = refused c
-create_turn c (Some m) values =
-    if may_create c.units m.member values then
+-- `create` makes an item of these values, where nothing refuses it.
+abbrev pub create_by : Community → NamedMember → List (List ℕ) → Option EditFault → Turn
+create_by c m values (Some fault) = refused c (Edit fault)
+create_by c m values None =
     changed c (Created (next_item m.member))
     (Own (Make m.member.id (next_item m.member) (next_version m.member) (created_contents values)))
     m (created m.member values)
-    else refused c
 
--- `set` writes the value to the unit of a live item with these cells, where the replica may.
-abbrev pub edit_turn : Community → NamedMember → ItemId → ℕ → List ℕ → Option ItemState → Turn
-edit_turn c m item unit value None = refused c
-edit_turn c m item unit value (Some (Dead version)) = refused c
-edit_turn c m item unit value (Some (Live cells)) =
-    if may_edit c.units m.member item unit value then
+abbrev pub create_turn : Community → List ℕ → Option NamedMember → List (List ℕ) → Turn
+create_turn c name None values = refused c (NoReplica name)
+create_turn c name (Some m) values =
+    if length values == c.units then create_by c m values (create_refusal m.member values)
+    else refused c (BadCount (length values) c.units)
+
+-- `set` writes the value to the unit of an item, where nothing refuses it.
+abbrev pub set_by : Community → NamedMember → ItemId → ℕ → List ℕ → Option EditFault → Turn
+set_by c m item unit value (Some fault) = refused c (Edit fault)
+set_by c m item unit value None =
     changed c (Changed (next_version m.member))
     (Own (Make m.member.id item (next_version m.member) (edited_contents unit value)))
-    m (edited m.member item cells unit value)
-    else refused c
+    m (edited m.member item unit value)
 
--- `set`, where there is the replica.
-abbrev pub set_turn : Community → Option NamedMember → ItemId → ℕ → List ℕ → Turn
-set_turn c None item unit value = refused c
-set_turn c (Some m) item unit value = edit_turn c m item unit value (state_of m.member.items item)
+abbrev pub set_turn : Community → List ℕ → Option NamedMember → ItemId → ℕ → List ℕ → Turn
+set_turn c name None item unit value = refused c (NoReplica name)
+set_turn c name (Some m) item unit value =
+    set_by c m item unit value (set_refusal c.units m.member item unit value)
 
 -- `show` shows the replica.
-abbrev pub show_turn : Community → Option NamedMember → Turn
-show_turn c None = refused c
-show_turn c (Some m) = answered c (Shown (listing m))
+abbrev pub show_turn : Community → List ℕ → Option NamedMember → Turn
+show_turn c name None = refused c (NoReplica name)
+show_turn c name (Some m) = answered c (Shown (listing c.units m))
 
--- `knows` tells whether the replica's knowledge of a cell contains the version.
-abbrev pub knows_turn : Community → Option NamedMember → ItemId → ℕ → Version → Turn
-knows_turn c None item unit version = refused c
-knows_turn c (Some m) item unit version =
-    if nat_lt unit c.units then answered c (Known (contains m.member item unit version)) else refused c
+-- `knows` tells whether the replica's knowledge of a unit of an item contains the version.
+abbrev pub knows_turn : Community → List ℕ → Option NamedMember → ItemId → ℕ → Version → Turn
+knows_turn c name None item unit version = refused c (NoReplica name)
+knows_turn c name (Some m) item unit version =
+    if nat_lt unit c.units then answered c (Known (contains m.member item unit version))
+    else refused c (Edit (BadUnit unit c.units))
 
--- What comes of a line that was read.
+-- `equal` compares two replicas.
+abbrev pub equal_turn : Community → List ℕ → List ℕ → Option NamedMember → Option NamedMember → Turn
+equal_turn c first second None other = refused c (NoReplica first)
+equal_turn c first second (Some m) None = refused c (NoReplica second)
+equal_turn c first second (Some m) (Some n) =
+    answered c (Compared (know_same c.units m.member n.member) (hold_same m.member n.member))
+
+-- What comes of a line.
 abbrev pub turn_of : Community → Line → Turn
-turn_of c (UnitsLine n) = units_turn c n
-turn_of c (Replica name id) = replica_turn c name id
-turn_of c (Create replica values) = create_turn c (member_of c.members replica) values
-turn_of c (Set replica item unit value) = set_turn c (member_of c.members replica) item unit value
-turn_of c (Show replica) = show_turn c (member_of c.members replica)
-turn_of c (Knows replica item unit version) = knows_turn c (member_of c.members replica) item unit version
+turn_of c (lines.Units n) = units_turn c n
+turn_of c (lines.Replica name id) = replica_turn c name id
+turn_of c (lines.Files name id) = refused c NotBuilt
+turn_of c (lines.Create replica values) = create_turn c replica (member_of c.members replica) values
+turn_of c (lines.Set replica item unit value) = set_turn c replica (member_of c.members replica) item unit value
+turn_of c (lines.Delete replica item) = refused c NotBuilt
+turn_of c (lines.Clean replica item) = refused c NotBuilt
+turn_of c (lines.Scan replica) = refused c NotBuilt
+turn_of c (lines.Sync source destination keep clash options) = refused c NotBuilt
+turn_of c (lines.Show replica) = show_turn c replica (member_of c.members replica)
+turn_of c (lines.Knows replica item unit version) = knows_turn c replica (member_of c.members replica) item unit version
+turn_of c (lines.Equal first second) =
+    equal_turn c first second (member_of c.members first) (member_of c.members second)
 
--- What comes of a line, where it is one that is built.
-abbrev pub turn_where : Community → Option Line → Turn
-turn_where c None = refused c
-turn_where c (Some line) = turn_of c line
+-- What comes of a line as it was read: bytes that are none are refused for where they go wrong first.
+abbrev pub turn_by : Community → Read Line → Turn
+turn_by c (Ok line) = turn_of c line
+turn_by c (Err cause) = refused c (Syntax (place_of cause))
 
 -- What comes of a line of a script.
 abbrev pub turn : Community → List ℕ → Turn
-turn c bytes = turn_where c (line_of bytes)
+turn c bytes = turn_by c (reading_of bytes)
 
 -- What comes of a whole script.
 pub record Turns : Type 0 where

@@ -1,23 +1,31 @@
-ghost use Rattle.std.specs.Prelude.{◌≡◌, IfOk, OnOk, OnErr, Some};
-ghost use Rattle.sfx_ids.specs.declared.item_id.ItemId.{ItemId};
+ghost use Rattle.std.specs.Prelude.{◌≡◌, false, nat_eq, slice_get, IfOk, IsSome, OnOk, OnErr, option_map};
+ghost use Rattle.std.specs.Option.{option_map_or};
+ghost use Rattle.sfx_model.specs.Members.{NamedMember};
+ghost use Rattle.syncfx.specs.declared.reply.Reply.TheVariants.{Refused};
+ghost use Rattle.syncfx.specs.declared.reason.Reason.TheVariants.{Edit, NoReplica};
+ghost use Rattle.syncfx.specs.Reply.{is_memory};
 
-use crate::line::Line;
 use crate::listing::listing;
-use crate::named_replica::{NamedReplica, UNITS};
-use crate::replica::Replica;
-use crate::replica_name::ReplicaName;
+use crate::reason::Reason;
 use crate::reply::Reply;
-use crate::values::Values;
-use sfx_ids::{ItemId, Memory, ReplicaId, Version};
+use indexmap::IndexMap;
+use sfx_ids::{ItemId, Memory, ReplicaId, UnitId, Version};
 use sfx_item::Value;
+use sfx_outside::Text;
+use sfx_replica::{EditFault, Replica};
+use sfx_script::{Line, LineFault, Values, parse_line};
 use std::alloc::Global;
 use std::marker::Model;
 
-/// The replicas that a script works on: at most one, whose items have two change units.
+/// How many change units each item has.
+pub const UNITS: usize = 2;
+
+/// The replicas that a script works on, by name and in the order in which they were added. Their items
+/// have two change units, once that is said.
 #[derive(Drop)]
 pub struct Community {
     has_units: bool,
-    member: Option<NamedReplica>,
+    members: IndexMap<Text, Replica<UNITS>>,
 }
 
 impl Model for Community {
@@ -25,24 +33,25 @@ impl Model for Community {
 
     ghost Value = { Community };
 
-    ghost use Rattle.syncfx.specs.Community.{members_view, units_view, HasUnits};
+    ghost use Rattle.syncfx.specs.Members.{members_view, units_view, HasUnits};
 
-    ghost view = { λ c. record { units = units_view c.has_units; members = members_view c.member } };
+    ghost view = { λ c. record { units = units_view c.has_units; members = members_view c.members.entries } };
 
-    ghost invariant = { λ c. HasUnits c.has_units c.member };
+    ghost invariant = { λ c. HasUnits c.has_units c.members.entries };
 }
 
 impl Community {
-    ghost use Rattle.syncfx.specs.Line.{line_of};
-    ghost use Rattle.syncfx.specs.Turn.{create_turn, empty_community, knows_turn, member_of, replica_turn, set_turn, show_turn, turn, turn_of, units_turn};
+    ghost use Rattle.sfx_script.specs.Reading.{line_of};
+    ghost use Rattle.syncfx.specs.Members.{has_id, member_of};
+    ghost use Rattle.syncfx.specs.Turn.{create_turn, empty_community, equal_turn, knows_turn, replica_turn, set_turn, show_turn, turn, turn_of, units_turn};
 
     /// No unit count is set, and there is no replica.
-    pub fn new() -> Self
+    pub fn new(alloc: Global) -> Self
         ensures { result ≡ empty_community }
     {
         Community {
             has_units: false,
-            member: None,
+            members: IndexMap::new(alloc),
         }
     }
 
@@ -55,9 +64,10 @@ impl Community {
         ensures after { OnOk result (self.new ≡ (turn self.old line.now).community) }
         ensures err { OnErr result (self.new ≡ self.old) }
     {
-        match Line::read(alloc, line)? {
-            Some(line) => self.answer(alloc, line),
-            None => Ok(Reply::NotBuilt),
+        match parse_line(alloc, line) {
+            Ok(line) => self.answer(alloc, line),
+            Err(LineFault::Syntax(at)) => Ok(Reply::Refused(Reason::Syntax(at))),
+            Err(LineFault::Memory) => Err(Memory),
         }
     }
 
@@ -69,21 +79,27 @@ impl Community {
     {
         match line {
             Line::Units { n } => Ok(self.set_units(n)),
-            Line::Replica { name, id } => Ok(self.add(alloc, name, id)),
-            Line::Create { replica, values } => self.create(alloc, &replica, values),
+            Line::Replica { name, id } => self.add(alloc, name, id),
+            Line::Create { replica, values } => self.create(replica, values),
             Line::Set {
                 replica,
                 item,
                 unit,
                 value,
-            } => self.set(alloc, &replica, &item, unit, value),
-            Line::Show { replica } => self.show(alloc, &replica),
+            } => self.set(replica, &item, unit, value),
+            Line::Show { replica } => self.show(alloc, replica),
             Line::Knows {
                 replica,
                 item,
                 unit,
                 version,
-            } => Ok(self.knows(&replica, &item, unit, &version)),
+            } => Ok(self.knows(replica, &item, unit, &version)),
+            Line::Equal { first, second } => self.equal(alloc, first, second),
+            Line::Files { .. }
+            | Line::Delete { .. }
+            | Line::Clean { .. }
+            | Line::Scan { .. }
+            | Line::Sync { .. } => Ok(Reply::Refused(Reason::NotBuilt)),
         }
     }
 
@@ -91,75 +107,158 @@ impl Community {
         ensures reply { result ≡ (units_turn self.old n).reply }
         ensures after { self.new ≡ (units_turn self.old n).community }
     {
-        if n != UNITS as u64 || self.has_units {
-            return Reply::NotBuilt;
+        if !matches!(n, 1 | 2 | 4 | 8) {
+            return Reply::Refused(Reason::BadUnits(n));
+        }
+        if n != UNITS as u64 {
+            return Reply::Refused(Reason::NotBuilt);
+        }
+        if self.has_units {
+            return Reply::Refused(Reason::UnitsSet);
         }
         self.has_units = true;
         Reply::Done
     }
 
-    fn add(&mut self, alloc: Global, name: ReplicaName, id: ReplicaId) -> Reply
-        ensures reply { result ≡ (replica_turn self.old name id).reply }
-        ensures after { self.new ≡ (replica_turn self.old name id).community }
-    {
-        if !self.has_units || self.member.is_some() {
-            return Reply::NotBuilt;
-        }
-        let replica = Replica::new(alloc, id);
-        self.member = Some(NamedReplica { name, replica });
-        Reply::Done
-    }
-
-    fn create(&mut self, alloc: Global, name: &ReplicaName, values: Values) -> Result<Reply, Memory>
-        ensures reply { IfOk result (λ reply. reply ≡ (create_turn self.old (member_of self.old.members name.now) values).reply) }
-        ensures after { OnOk result (self.new ≡ (create_turn self.old (member_of self.old.members name.now) values).community) }
+    fn add(&mut self, alloc: Global, name: Text, id: ReplicaId) -> Result<Reply, Memory>
+        ensures reply { IfOk result (λ reply. reply ≡ (replica_turn self.old name id).reply) }
+        ensures after { OnOk result (self.new ≡ (replica_turn self.old name id).community) }
         ensures err { OnErr result (self.new ≡ self.old) }
     {
-        let Some(mut named) = self.member.take() else {
-            return Ok(Reply::NotBuilt);
-        };
-        let reply = named.create(alloc, name, values);
-        self.member = Some(named);
-        reply
-    }
-
-    fn set(
-        &mut self,
-        alloc: Global,
-        name: &ReplicaName,
-        item: &ItemId,
-        unit: u64,
-        value: Value,
-    ) -> Result<Reply, Memory>
-        ensures reply { IfOk result (λ reply. reply ≡ (set_turn self.old (member_of self.old.members name.now) item.now unit value).reply) }
-        ensures after { OnOk result (self.new ≡ (set_turn self.old (member_of self.old.members name.now) item.now unit value).community) }
-        ensures err { OnErr result (self.new ≡ self.old) }
-    {
-        let Some(mut named) = self.member.take() else {
-            return Ok(Reply::NotBuilt);
-        };
-        let reply = named.set(alloc, name, item, unit, value);
-        self.member = Some(named);
-        reply
-    }
-
-    fn show(&self, alloc: Global, name: &ReplicaName) -> Result<Reply, Memory>
-        ensures { IfOk result (λ reply. reply ≡ (show_turn self.now (member_of self.now.members name.now)).reply) }
-    {
-        match &self.member {
-            Some(named) if named.is_called(name) => { Ok(Reply::Shown(listing(alloc, named)?)) }
-            _ => Ok(Reply::NotBuilt),
+        if !self.has_units {
+            return Ok(Reply::Refused(Reason::NoUnits));
         }
+        if self.members.contains_key(&name) {
+            return Ok(Reply::Refused(Reason::NameTaken));
+        }
+        if self.has_id(&id) {
+            return Ok(Reply::Refused(Reason::IdTaken));
+        }
+        let replica = Replica::new(alloc, id)?;
+        self.members.insert(name, replica)?;
+        Ok(Reply::Done)
     }
 
-    fn knows(&self, name: &ReplicaName, item: &ItemId, unit: u64, version: &Version) -> Reply
-        ensures { result ≡ (knows_turn self.now (member_of self.now.members name.now) item.now unit version.now).reply }
+    /// Whether a replica has this id.
+    fn has_id(&self, id: &ReplicaId) -> bool
+        ensures { result ≡ has_id id.now self.now.members }
     {
-        match &self.member {
-            Some(named) if named.is_called(name) && unit < UNITS as u64 => {
-                Reply::Known(named.replica.knows(version))
+        for i in 0..self.members.len() {
+            if self.is_id_at(i, id) {
+                return true;
             }
-            _ => Reply::NotBuilt,
+        }
+        false
+    }
+
+    /// Whether the replica of this index has this id.
+    fn is_id_at(&self, i: usize, id: &ReplicaId) -> bool
+        ensures { result ≡ option_map_or (λ m. nat_eq m.member.id id.now) (slice_get self.now.members i) false }
+    {
+        match self.members.get_index(i) {
+            Some((_, replica)) => replica.id() == *id,
+            None => false,
         }
     }
+
+    fn create(&mut self, name: Text, values: Values) -> Result<Reply, Memory>
+        ensures reply { IfOk result (λ reply. reply ≡ (create_turn self.old name (member_of self.old.members name) values).reply) }
+        ensures after { OnOk result (self.new ≡ (create_turn self.old name (member_of self.old.members name) values).community) }
+        ensures err { OnErr result (self.new ≡ self.old) }
+    {
+        let Some(place) = self.members.get_index_of(&name) else {
+            return Ok(no_replica(name));
+        };
+        let given = values.as_slice().len();
+        if given != UNITS {
+            let units = UNITS;
+            return Ok(Reply::Refused(Reason::BadCount { given, units }));
+        }
+        match self.members[place].create(values.into_vec()) {
+            Ok(item) => Ok(Reply::Created(item)),
+            Err(fault) => refusal(fault),
+        }
+    }
+
+    fn set(&mut self, name: Text, item: &ItemId, unit: u64, value: Value) -> Result<Reply, Memory>
+        ensures reply { IfOk result (λ reply. reply ≡ (set_turn self.old name (member_of self.old.members name) item.now unit value).reply) }
+        ensures after { OnOk result (self.new ≡ (set_turn self.old name (member_of self.old.members name) item.now unit value).community) }
+        ensures err { OnErr result (self.new ≡ self.old) }
+    {
+        let Some(place) = self.members.get_index_of(&name) else {
+            return Ok(no_replica(name));
+        };
+        match self.members[place].set(item, unit as usize, value) {
+            Ok(version) => Ok(Reply::Changed(version)),
+            Err(fault) => refusal(fault),
+        }
+    }
+
+    fn show(&self, alloc: Global, name: Text) -> Result<Reply, Memory>
+        ensures { IfOk result (λ reply. reply ≡ (show_turn self.now name (member_of self.now.members name)).reply) }
+    {
+        match self.find(&name) {
+            Some(replica) => Ok(Reply::Shown(listing(alloc, name.as_str(), replica)?)),
+            None => Ok(no_replica(name)),
+        }
+    }
+
+    fn knows(&self, name: Text, item: &ItemId, unit: u64, version: &Version) -> Reply
+        ensures { result ≡ (knows_turn self.now name (member_of self.now.members name) item.now unit version.now).reply }
+    {
+        let Some(replica) = self.find(&name) else {
+            return no_replica(name);
+        };
+        let k = unit as usize;
+        match UnitId::new(k) {
+            Some(unit) => Reply::Known(replica.knows(item, unit, version)),
+            None => Reply::Refused(Reason::Edit(EditFault::BadUnit { k, u: UNITS })),
+        }
+    }
+
+    fn equal(&self, alloc: Global, first: Text, second: Text) -> Result<Reply, Memory>
+        ensures { IfOk result (λ reply. reply ≡ (equal_turn self.now first second (member_of self.now.members first) (member_of self.now.members second)).reply) }
+    {
+        let Some(one) = self.find(&first) else {
+            return Ok(no_replica(first));
+        };
+        let Some(other) = self.find(&second) else {
+            return Ok(no_replica(second));
+        };
+        let knowledge = one.knowledge(alloc)?.same(&other.knowledge(alloc)?);
+        let items = one.same_live(other);
+        Ok(Reply::Compared { knowledge, items })
+    }
+
+    /// The replica with this name.
+    fn find(&self, name: &Text) -> Option<&Replica<UNITS>>
+        ensures found { option_map (λ r. record { name = name.now; member = r.now }) result ≡ member_of self.now.members name.now }
+        ensures units { IsSome result → self.now.units ≡ UNITS }
+    {
+        self.members.get(name)
+    }
+}
+
+/// The refusal of a line that names no replica.
+fn no_replica(name: Text) -> Reply
+    ensures { result ≡ Refused (NoReplica name) }
+{
+    Reply::Refused(Reason::NoReplica(name))
+}
+
+/// The refusal of a line whose edit a replica refuses. Want of memory refuses no line.
+fn refusal(fault: EditFault) -> Result<Reply, Memory>
+    ensures { IfOk result (λ reply. (reply ≡ Refused (Edit fault)) × (is_memory fault ≡ false)) }
+{
+    if is_memory(&fault) {
+        return Err(Memory);
+    }
+    Ok(Reply::Refused(Reason::Edit(fault)))
+}
+
+/// Whether the refusal is want of memory.
+fn is_memory(fault: &EditFault) -> bool
+    ensures { result ≡ is_memory fault.now }
+{
+    matches!(fault, EditFault::Memory)
 }

@@ -9,23 +9,16 @@ use std::process::ExitCode;
 use std::{env, io};
 
 mod community;
-mod items;
 mod laws;
-mod line;
-mod line_words;
 mod listing;
-mod named_replica;
 mod play;
-mod replica;
-mod replica_name;
+mod reason;
 mod reply;
 mod run;
 mod status;
 #[cfg(test)]
 mod tests;
 mod text;
-mod values;
-mod word;
 
 fn main(rt: HostRuntime) -> ExitCode {
     let status = status_of(&rt);

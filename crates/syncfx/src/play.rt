@@ -2,7 +2,8 @@
 ghost use Rattle.std.specs.Prelude.{◌≡◌, ◌<◌, ◌≤◌, ◌⊎◌, [], ◌∷◌, length, IfOk, IfSome, OnOk, OnErr, IsErrOf};
 ghost use Rattle.sfx_outside.specs.Fault.{HasRisen};
 ghost use Rattle.sfx_outside.specs.Sink.{Adds, AddsFront};
-ghost use Rattle.syncfx.specs.Line.{is_passed, lines_left, lines_of};
+ghost use Rattle.sfx_script.specs.Script.{is_passed, lines_of};
+ghost use Rattle.syncfx.specs.Run.{lines_left};
 ghost use Rattle.syncfx.specs.Run.{has_refusal, played, played_text, replies_text};
 ghost use Rattle.syncfx.specs.Turn.{turns};
 
@@ -22,7 +23,7 @@ pub fn play<B: Sink>(alloc: Global, script: &[u8], out: &mut B) -> Result<bool, 
     ensures faults { B.faults out.old ≤ B.faults out.new }
     ensures cause { IsErrOf result SinkFault.Failed → HasRisen (B.faults out.old) (B.faults out.new) }
 {
-    let mut community = Community::new();
+    let mut community = Community::new(alloc);
     let mut has_refusal = false;
     let mut rest = Some(script);
     'lines: while let Some(script) = rest {

@@ -1,5 +1,7 @@
 ghost use Rattle.std.specs.Prelude.{◌≡◌, ◌++◌, OnOk};
+ghost use Rattle.syncfx.specs.Reply.{yes_or_no};
 
+use crate::reason::Reason;
 use crate::text::{append, newline};
 use sfx_ids::{ItemId, Memory, Version, write_item, write_version};
 use std::marker::Model;
@@ -43,10 +45,12 @@ pub enum Reply {
     Changed(Version),
     /// Whether the replica knows the version.
     Known(bool),
+    /// Whether two replicas know the same, and whether they hold the same live items.
+    Compared { knowledge: bool, items: bool },
     /// What the replica holds.
     Shown(Listing),
-    /// The line is not built, or refused.
-    NotBuilt,
+    /// The line is refused.
+    Refused(Reason),
 }
 
 impl Reply {
@@ -56,7 +60,7 @@ impl Reply {
     pub fn is_refusal(&self) -> bool
         ensures { result ≡ is_refusal self.now }
     {
-        matches!(self, Reply::NotBuilt)
+        matches!(self, Reply::Refused(_))
     }
 
     /// Appends the text of the reply. The one error is want of memory; a part may be appended then.
@@ -75,10 +79,35 @@ impl Reply {
                 write_version(out, version)?;
                 newline(out)
             }
-            Reply::Known(true) => append(out, b"known=yes\n"),
-            Reply::Known(false) => append(out, b"known=no\n"),
+            Reply::Known(known) => {
+                append(out, b"known=")?;
+                write_answer(out, *known)?;
+                newline(out)
+            }
+            Reply::Compared { knowledge, items } => {
+                append(out, b"knowledge=")?;
+                write_answer(out, *knowledge)?;
+                append(out, b" items=")?;
+                write_answer(out, *items)?;
+                newline(out)
+            }
             Reply::Shown(listing) => append(out, listing.bytes()),
-            Reply::NotBuilt => append(out, b"no NotBuilt\n"),
+            Reply::Refused(reason) => {
+                append(out, b"no ")?;
+                reason.write(out)?;
+                newline(out)
+            }
         }
+    }
+}
+
+/// Appends yes or no.
+fn write_answer(out: &mut Vec<u8>, answer: bool) -> Result<(), Memory>
+    ensures { OnOk result (out.new.items ≡ out.old.items ++ yes_or_no answer) }
+{
+    if answer {
+        append(out, b"yes")
+    } else {
+        append(out, b"no")
     }
 }

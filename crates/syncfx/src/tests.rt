@@ -39,8 +39,15 @@ fn answers_small_scripts(rt: HostRuntime) -> Result<(), Fail> {
     let alloc = rt.alloc();
     let cases = [
         ("", "", Status::Done),
-        ("units 3", "no NotBuilt\n", Status::Refused),
-        ("units 2\nunits 2\n", "ok\nno NotBuilt\n", Status::Refused),
+        ("units 3", "no BadUnits(3)\n", Status::Refused),
+        ("units 4", "no NotBuilt\n", Status::Refused),
+        ("units 2\nunits 2\n", "ok\nno UnitsSet\n", Status::Refused),
+        ("replica A 0", "no Syntax(10)\n", Status::Refused),
+        (
+            "show A\nequal A B\n",
+            "no NoReplica(A)\nno NoReplica(A)\n",
+            Status::Refused,
+        ),
         ("# a comment\n\nunits 2\n", "ok\n", Status::Done),
     ];
     for (script, replies, status) in cases {
@@ -54,6 +61,95 @@ fn answers_small_scripts(rt: HostRuntime) -> Result<(), Fail> {
         assert_eq!(rt; ended.status, status, "at {script:?}");
         assert_eq!(rt; ended.out.held(), replies.as_bytes(), "at {script:?}");
     }
+    Ok(())
+}
+
+/// Lines of a script on two replicas and their replies, where `{a}`, `{b}` and `{c}` stand for ids.
+const DIALOGUE: [(&str, &str); 38] = [
+    ("replica A {a}", "no NoUnits"),
+    ("units 2", "ok"),
+    ("replica A {a}", "ok"),
+    ("replica B {b}", "ok"),
+    ("create A n1 x", "ok 1:{a}"),
+    ("equal A B", "knowledge=no items=no"),
+    ("equal A A", "knowledge=yes items=yes"),
+    ("equal A C", "no NoReplica(C)"),
+    ("set A 2:{a} 1 v", "no NoItem"),
+    ("set A 1:{a} 2 v", "no BadUnit(2,2)"),
+    (
+        "set A 1:{a} 18446744073709551615 v",
+        "no BadUnit(18446744073709551615,2)",
+    ),
+    ("set A 1:{a} 0 a//b", "no BadName(2)"),
+    ("set A 1:{a} 0 -", "no BadName(0)"),
+    ("create A n1/k v", "no Clash(1:{a})"),
+    ("create A n1/.. v", "no BadName(3)"),
+    ("create A n9", "no BadCount(1,2)"),
+    ("create A n9 1 2", "no BadCount(3,2)"),
+    ("create A n2 Buy%20milk%0A", "ok 2:{a}"),
+    ("set A 2:{a} 0 n1", "no Clash(1:{a})"),
+    ("set A 2:{a} 0 n2", "ok 3@{a}"),
+    ("set A 2:{a} 1 %2D", "ok 4@{a}"),
+    ("set A 1:{a} 1 -", "ok 5@{a}"),
+    (
+        "show A",
+        "replica A {a} plain clock=5\nforgotten -\nknow start {a}=5\nitem 1:{a} live 1@{a}=n1 5@{a}=-\nitem 2:{a} live 3@{a}=n2 4@{a}=%2D\nend",
+    ),
+    (
+        "show B",
+        "replica B {b} plain clock=0\nforgotten -\nknow start -\nend",
+    ),
+    ("knows A 1:{a} 1 5@{a}", "known=yes"),
+    ("knows A 1:{a} 1 6@{a}", "known=no"),
+    ("knows B 1:{a} 1 1@{a}", "known=no"),
+    ("knows A 1:{a} 2 1@{a}", "no BadUnit(2,2)"),
+    ("knows A 01:{a} 0 1@{a}", "no Syntax(8)"),
+    ("creat A x", "no Syntax(0)"),
+    ("show  A", "no Syntax(5)"),
+    ("show", "no Syntax(4)"),
+    ("show A B", "no Syntax(7)"),
+    ("show Z", "no NoReplica(Z)"),
+    ("replica A {c}", "no NameTaken"),
+    ("replica C {a}", "no IdTaken"),
+    ("delete A 1:{a}", "no NotBuilt"),
+    ("sync A B keep=skip clash=skip", "no NotBuilt"),
+];
+
+/// The text with the ids that stand in it.
+fn with_ids(alloc: Global, text: &str) -> Result<String, AllocError> {
+    let text = text.replace(alloc, "{a}", "00000000-0000-0000-0000-00000000000a")?;
+    let text = text.replace(alloc, "{b}", "00000000-0000-0000-0000-00000000000b")?;
+    text.replace(alloc, "{c}", "00000000-0000-0000-0000-00000000000c")
+}
+
+#[test]
+fn answers_a_script_on_two_replicas(rt: HostRuntime) -> Result<(), Fail> {
+    let alloc = rt.alloc();
+    let mut script = Vec::new(alloc);
+    let mut replies = Vec::new(alloc);
+    for (line, reply) in DIALOGUE {
+        script.extend_from_slice(with_ids(alloc, line)?.as_bytes())?;
+        script.push(b'\n')?;
+        replies.extend_from_slice(with_ids(alloc, reply)?.as_bytes())?;
+        replies.push(b'\n')?;
+    }
+    let ended = run_on(alloc, &["play"], script, 7, &[])?;
+    assert_eq!(rt; ended.status, Status::Refused);
+    assert_eq!(rt; ended.out.held(), replies.as_slice());
+    Ok(())
+}
+
+#[test]
+fn tells_of_a_failing_output(rt: HostRuntime) -> Result<(), Fail> {
+    let alloc = rt.alloc();
+    let mut owned = Vec::new(alloc);
+    owned.push(String::from_str(alloc, "play")?)?;
+    let script = Vec::from_slice(alloc, b"units 3\n")?;
+    let mut input = MemorySource::new(script, 3, Vec::new(alloc));
+    let mut out = MemorySink::new(alloc, Vec::from_slice(alloc, &[1])?);
+    let status = run(alloc, &owned, &mut input, &mut out);
+    assert_eq!(rt; status, Status::SinkFault);
+    assert!(rt; out.held().is_empty());
     Ok(())
 }
 

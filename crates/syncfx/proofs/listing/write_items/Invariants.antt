@@ -1,6 +1,6 @@
 use Rattle.std.proofs.Common.{◌≡◌, ◌++◌, drop}
 use Rattle.std.specs.List.{flat_map}
-use Rattle.syncfx.specs.Items.{items_view}
+use Rattle.sfx_model.specs.Items.{items_view}
 use Rattle.syncfx.specs.Listing.{item_line}
 use Rattle.syncfx.proofs.listing.write_items.Given as goal
 

@@ -1,7 +1,6 @@
 use Rattle.std.proofs.Common.{◌≡◌, ◌∷◌, ap, ◌∙◌, arith}
 use Rattle.syncfx.proofs.Playing.{so_far-start, so_far-step, so_far-front, on_err_anyhow}
-use Rattle.syncfx.specs.Line.{lines_left}
-use Rattle.syncfx.specs.Run.{played}
+use Rattle.syncfx.specs.Run.{lines_left, played}
 use Rattle.syncfx.proofs.play.play.Goals as goal
 
 pub lines-init : goal.lines-init

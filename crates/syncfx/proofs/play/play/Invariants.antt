@@ -1,8 +1,7 @@
 use Rattle.std.proofs.Common.{◌+◌, ◌≤◌, length}
 use Rattle.std.specs.Option.{option_map_or}
 use Rattle.syncfx.proofs.Playing.{SoFar}
-use Rattle.syncfx.specs.Line.{lines_left}
-use Rattle.syncfx.specs.Run.{played}
+use Rattle.syncfx.specs.Run.{lines_left, played}
 use Rattle.syncfx.specs.Turn.{turns}
 use Rattle.syncfx.proofs.play.play.Given as goal
 

@@ -1,0 +1,98 @@
+ghost use Rattle.std.specs.Prelude.{◌≡◌, ◌++◌, OnOk};
+ghost use Rattle.syncfx.specs.Reply.{fault_text, reason_text, with_number, with_numbers};
+
+use crate::text::{append, write_number};
+use sfx_ids::{Memory, write_item};
+use sfx_outside::Text;
+use sfx_replica::EditFault;
+
+/// Why a line of a script is refused. Nothing has changed then.
+#[derive(Drop)]
+pub enum Reason {
+    /// The bytes are no line: the least index at which they go wrong.
+    Syntax(usize),
+    /// The line is none of those that are built.
+    NotBuilt,
+    /// No items have this many units.
+    BadUnits(u64),
+    /// The unit count is set.
+    UnitsSet,
+    /// The unit count is not set.
+    NoUnits,
+    /// A replica has the name.
+    NameTaken,
+    /// A replica has the id.
+    IdTaken,
+    /// No replica has this name.
+    NoReplica(Text),
+    /// There are not as many values as items have units.
+    BadCount { given: usize, units: usize },
+    /// The replica refuses the edit.
+    Edit(EditFault),
+}
+
+impl Reason {
+    /// Appends the text of the reason. The one error is want of memory; a part may be appended then.
+    pub fn write(&self, out: &mut Vec<u8>) -> Result<(), Memory>
+        ensures { OnOk result (out.new.items ≡ out.old.items ++ reason_text self.now) }
+    {
+        match self {
+            Reason::Syntax(at) => write_with_number(out, b"Syntax(", *at as u64),
+            Reason::NotBuilt => append(out, b"NotBuilt"),
+            Reason::BadUnits(n) => write_with_number(out, b"BadUnits(", *n),
+            Reason::UnitsSet => append(out, b"UnitsSet"),
+            Reason::NoUnits => append(out, b"NoUnits"),
+            Reason::NameTaken => append(out, b"NameTaken"),
+            Reason::IdTaken => append(out, b"IdTaken"),
+            Reason::NoReplica(name) => {
+                append(out, b"NoReplica(")?;
+                append(out, name.as_str().as_bytes())?;
+                append(out, b")")
+            }
+            Reason::BadCount { given, units } => {
+                write_with_numbers(out, b"BadCount(", *given as u64, *units as u64)
+            }
+            Reason::Edit(fault) => write_fault(out, fault),
+        }
+    }
+}
+
+/// Appends the text of the refusal of an edit.
+fn write_fault(out: &mut Vec<u8>, fault: &EditFault) -> Result<(), Memory>
+    ensures { OnOk result (out.new.items ≡ out.old.items ++ fault_text fault.now) }
+{
+    match fault {
+        EditFault::NoItem => append(out, b"NoItem"),
+        EditFault::Deleted => append(out, b"Deleted"),
+        EditFault::BadUnit { k, u } => write_with_numbers(out, b"BadUnit(", *k as u64, *u as u64),
+        EditFault::BadName(at) => write_with_number(out, b"BadName(", *at as u64),
+        EditFault::Clash(item) => {
+            append(out, b"Clash(")?;
+            write_item(out, item)?;
+            append(out, b")")
+        }
+        EditFault::ClockFull(clock) => write_with_number(out, b"ClockFull(", *clock),
+        EditFault::NotDeleted => append(out, b"NotDeleted"),
+        EditFault::Memory => append(out, b"Memory"),
+    }
+}
+
+/// Appends a word that opens a parenthesis, a number, and the closing parenthesis.
+fn write_with_number(out: &mut Vec<u8>, word: &[u8], number: u64) -> Result<(), Memory>
+    ensures { OnOk result (out.new.items ≡ out.old.items ++ with_number word.now number) }
+{
+    append(out, word)?;
+    write_number(out, number)?;
+    append(out, b")")
+}
+
+/// The same with two numbers, parted by a comma.
+fn write_with_numbers(out: &mut Vec<u8>, word: &[u8], first: u64, second: u64) -> Result<(), Memory>
+    ensures { OnOk result (out.new.items ≡ out.old.items ++ with_numbers word.now first second) }
+{
+    append(out, word)?;
+    write_number(out, first)?;
+    append(out, b",")?;
+    write_number(out, second)?;
+    append(out, b")")
+}
