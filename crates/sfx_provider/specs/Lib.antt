@@ -1,0 +1,4 @@
+pub mod Head
+pub mod Commit
+pub mod Fits
+pub mod Fault
