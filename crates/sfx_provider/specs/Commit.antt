@@ -1,12 +1,12 @@
 -- What a commit makes of a replica's state.
-use Rattle.std.specs.Prelude.{ℕ, if◌then◌else◌, List, [], ◌∷◌}
+use Rattle.std.specs.Prelude.{ℕ, if◌then◌else◌, List, [], ◌∷◌, Option, Some, None}
 use Rattle.sfx_ids.specs.declared.item_id.ItemId.{ItemId}
 use Rattle.sfx_knowledge.specs.Knowledge.{Known}
 use Rattle.sfx_knowledge.specs.Forgotten.{Forgets}
 use Rattle.sfx_knowledge.specs.Forms.{with_own}
 use Rattle.sfx_model.specs.Events.{same_item}
-use Rattle.sfx_model.specs.Members.{MemberItem, Member}
-use Rattle.sfx_model.specs.States.{is_id_below}
+use Rattle.sfx_model.specs.Members.{ItemState, MemberItem, Member, state_of}
+use Rattle.sfx_model.specs.States.{with_item, with_state}
 
 -- A commit as plain data: the clock, what is known with the clock laid over, and what is forgotten from
 -- then on; the items that are put, and the ids of those that are dropped.
@@ -17,12 +17,15 @@ pub record CommitData : Type 0 where
   pub puts : List MemberItem
   pub drops : List ItemId
 
--- The items with this one: in place of that with its id, or else in its place by id.
+-- The items with this one, by the state of that with its id: in its place, or else, where there is none, as
+-- one more in its place by id.
+abbrev pub put_for : Option ItemState → MemberItem → List MemberItem → List MemberItem
+put_for (Some old) item items = with_state item.id item.state items
+put_for None item items = with_item item items
+
+-- The items with this one.
 abbrev pub put_item : MemberItem → List MemberItem → List MemberItem
-put_item item [] = item ∷ []
-put_item item (x ∷ xs) =
-    if is_id_below x.id item.id then x ∷ put_item item xs
-    else (if same_item x.id item.id then item ∷ xs else item ∷ x ∷ xs)
+put_item item items = put_for (state_of items item.id) item items
 
 -- The items with each of these, one after another.
 abbrev pub put_all : List MemberItem → List MemberItem → List MemberItem

@@ -1,7 +1,7 @@
 ghost use Rattle.std.specs.Prelude.{◌≡◌};
 
 use sfx_ids::Memory;
-use std::alloc::AllocError;
+use std::alloc::{AllocError, AllocFailed};
 use thiserror::Error;
 
 /// Why a provider did not answer.
@@ -21,6 +21,16 @@ impl From<AllocError> for ProviderFault {
     ghost from_gives = { λ _ fault. fault ≡ ProviderFault.Memory };
 
     fn from(_error: AllocError) -> Self {
+        ProviderFault::Memory
+    }
+}
+
+impl<T: Drop> From<AllocFailed<T>> for ProviderFault {
+    ghost use Rattle.sfx_provider.specs.declared.provider_fault.ProviderFault.{ProviderFault};
+
+    ghost from_gives = { λ _ fault. fault ≡ ProviderFault.Memory };
+
+    fn from(_failed: AllocFailed<T>) -> Self {
         ProviderFault::Memory
     }
 }
