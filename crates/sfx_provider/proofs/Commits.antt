@@ -1,5 +1,5 @@
 -- What a commit does to a replica's state, and that the state stays consistent.
-use Rattle.std.proofs.Common.{◌≡◌, ◌⊎◌, ℕ, ◌<◌, ◌≤◌, Bool, true, false, if◌then◌else◌, nat_eq, List, [], ◌∷◌, Option, Some, None, inl, inr, refl, sym, ◌∙◌, ap, subst, arith}
+use Rattle.std.proofs.Common.{◌≡◌, ◌⊎◌, ℕ, ◌<◌, Bool, true, false, if◌then◌else◌, nat_eq, List, [], ◌∷◌, Option, Some, None, inl, inr, refl, sym, ◌∙◌, ap, subst, arith}
 use Rattle.std.proofs.lemmas.Bool.{eqb-true, eq-eqb}
 use Rattle.sfx_ids.specs.declared.cut.Cut.{Cut}
 use Rattle.sfx_ids.specs.declared.cut.Cut.TheVariants.{At}
@@ -7,12 +7,10 @@ use Rattle.sfx_ids.specs.declared.item_id.ItemId.{ItemId}
 use Rattle.sfx_ids.specs.declared.version.Version.{Version}
 use Rattle.sfx_ids.specs.ItemId.{creation_of}
 use Rattle.sfx_segments.specs.Segments.{IsPlace}
-use Rattle.sfx_knowledge.specs.Knowledge.{IsKnowledge, KnowsVersion, HasTicks, laid_over, tick_at}
-use Rattle.sfx_knowledge.specs.Forms.{with_own}
+use Rattle.sfx_knowledge.specs.Knowledge.{IsKnowledge, HasTicks, laid_over, tick_at}
 use Rattle.sfx_knowledge.proofs.Making.{IsKnowledge-with_own, ticks-with_own}
 use Rattle.sfx_model.specs.Consistent.{IsConsistent, IsOwned}
-use Rattle.sfx_model.specs.Headline.{version_at}
-use Rattle.sfx_model.specs.Members.{ItemState, MemberItem, Member, state_of, vector_at}
+use Rattle.sfx_model.specs.Members.{ItemState, Member, state_of, vector_at}
 use Rattle.sfx_model.specs.Sets.{Has}
 use Rattle.sfx_model.specs.World.{IsContained}
 use Rattle.sfx_model.proofs.Rising.{before_differs, ids_compared}

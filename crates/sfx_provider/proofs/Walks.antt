@@ -1,11 +1,13 @@
 -- Walks over the items by the first one from a place.
-use Rattle.std.proofs.Common.{◌≡◌, Bool, true, false, if◌then◌else◌, List, [], ◌∷◌, Option, Some, None, inl, inr, refl, sym, ◌∙◌, ap, subst, ◌<◌, length, arith}
+use Rattle.std.proofs.Common.{◌≡◌, ℕ, ◌++◌, append_assoc, Bool, true, false, if◌then◌else◌, List, [], ◌∷◌, Option, Some, None, inl, inr, refl, sym, ◌∙◌, ap, subst, ◌<◌, length, arith}
 use Rattle.std.proofs.lemmas.Bool.Decides.{nat_tests}
-use Rattle.std.specs.List.{filter}
+use Rattle.std.proofs.lemmas.List.{map-append}
+use Rattle.sfx_item.specs.declared.item.Item.{Item}
+use Rattle.sfx_model.specs.Items.{item_view, items_view}
 use Rattle.sfx_ids.specs.declared.cut.Cut.{Cut}
-use Rattle.sfx_ids.specs.declared.cut.Cut.TheVariants.{Start, At, After, End}
+use Rattle.sfx_ids.specs.declared.cut.Cut.TheVariants.{Start, At, After}
 use Rattle.sfx_ids.specs.declared.item_id.ItemId.{ItemId}
-use Rattle.sfx_ids.specs.Cut.{cut_lt, cut_le}
+use Rattle.sfx_ids.specs.Cut.{cut_le}
 use Rattle.sfx_ids.proofs.CutOrder.{at-lt-after, le_trans, lt-le, start-le, lt-not_le}
 use Rattle.sfx_model.specs.Members.{MemberItem, AreRising, IsIdBelow}
 use Rattle.sfx_model.specs.Readings.{first_from, items_from}
@@ -122,3 +124,47 @@ items_walk (x ∷ xs) place items rising is = (
 -- From the start they are all.
 pub from_start : (items : List MemberItem) → items_from Start items ≡ items
 from_start items = all_from Start items (λ y has. start-le (At y.id))
+
+-- The first item from a place, and what is left behind it.
+pub stepped :
+    (place : Cut) (items : List MemberItem) (x : MemberItem)
+    → AreRising items → first_from place items ≡ Some x
+    → items_from place items ≡ x ∷ items_from (After x.id) items
+stepped place items x rising found = by_items (items_from place items) refl
+  where
+    by_items :
+        (ys : List MemberItem) → items_from place items ≡ ys
+        → items_from place items ≡ x ∷ items_from (After x.id) items
+    by_items [] e =
+        let bad : Some x ≡ None = sym found ∙ first_of place items ∙ ap first e in
+        absurd (cc)
+    by_items (y ∷ ys) e =
+        let is : Some x ≡ Some y = sym found ∙ first_of place items ∙ ap first e in
+        let same : x ≡ y = cc in
+        let others : items_from (After y.id) items ≡ ys = next_from place items y ys rising e in
+        rw (same, e, others) refl
+
+pub fewer :
+    (place : Cut) (items : List MemberItem) (x : MemberItem)
+    → AreRising items → first_from place items ≡ Some x
+    → length (items_from (After x.id) items) < length (items_from place items)
+fewer place items x rising found = rw (stepped place items x rising found) (omega arith)
+
+-- Where there is no first one, nothing is left.
+pub ended : (place : Cut) (items : List MemberItem) → first_from place items ≡ None → items_from place items ≡ []
+ended place items none = by_items (items_from place items) refl
+  where
+    by_items : (ys : List MemberItem) → items_from place items ≡ ys → items_from place items ≡ []
+    by_items [] e = e
+    by_items (y ∷ ys) e =
+        let bad : None ≡ Some y = sym none ∙ first_of place items ∙ ap first e in
+        absurd (cc)
+
+-- The items so far, with one more, and those that are left behind it are all.
+pub walked_on :
+    {U : ℕ} (place : Cut) (items : List MemberItem) (so_far : List (Item U)) (x : Item U)
+    → AreRising items → first_from place items ≡ Some (item_view x)
+    → items_view so_far ++ items_from place items ≡ items
+    → items_view (so_far ++ x ∷ []) ++ items_from (After x.id) items ≡ items
+walked_on place items so_far x rising found walked =
+    rw (map-append, append_assoc) (rw (stepped place items (item_view x) rising found) at walked)

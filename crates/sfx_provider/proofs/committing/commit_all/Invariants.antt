@@ -1,7 +1,5 @@
-use Rattle.std.proofs.Common.{◌≡◌, ◌≤◌, ◌++◌, drop}
+use Rattle.std.proofs.Common.{◌≡◌, ◌≤◌, drop}
 use Rattle.std.specs.Prelude.{IfSome}
-use Rattle.sfx_model.specs.Members.{Member}
-use Rattle.sfx_provider.specs.Course.{AllFit, committed_all, states_after}
 use Rattle.sfx_provider.proofs.Courses.{Stands}
 use Rattle.sfx_provider.proofs.committing.commit_all.Given as goal
 
