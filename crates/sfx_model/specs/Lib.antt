@@ -11,3 +11,4 @@ pub mod Examples
 pub mod Snapshots
 pub mod Items
 pub mod Consistent
+pub mod Readings

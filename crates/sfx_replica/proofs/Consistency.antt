@@ -30,7 +30,7 @@ use Rattle.sfx_model.specs.World.{IsContained}
 use Rattle.sfx_model.proofs.Acts.{set_cases}
 use Rattle.sfx_model.proofs.Placing.{with_rising, with_found, with_others, state_rising, state_found, state_others}
 use Rattle.sfx_model.proofs.Steps.{same_item_is, same_item_self}
-use Rattle.sfx_replica.specs.Clashes.{first_clash, is_in_the_way, is_excepted}
+use Rattle.sfx_model.specs.Readings.{first_clash, is_in_the_way, is_excepted}
 use Rattle.sfx_replica.specs.Edits.{new_member, risen, created}
 use Rattle.sfx_replica.specs.declared.edit_fault.EditFault.{EditFault}
 use Rattle.sfx_replica.specs.declared.edit_fault.EditFault.TheVariants.{BadUnit, ClockFull}

@@ -1,9 +1,6 @@
 -- The list of a replica's items.
-use Rattle.std.specs.Prelude.{ℕ, zero, suc, if◌then◌else◌, List, [], ◌∷◌, Option, Some, None}
-use Rattle.sfx_ids.specs.declared.cut.Cut.{Cut}
-use Rattle.sfx_ids.specs.declared.cut.Cut.TheVariants.{At}
+use Rattle.std.specs.Prelude.{ℕ, zero, suc, if◌then◌else◌, List, [], ◌∷◌}
 use Rattle.sfx_ids.specs.declared.item_id.ItemId.{ItemId}
-use Rattle.sfx_ids.specs.Cut.{cut_le}
 use Rattle.sfx_model.specs.Members.{MemberItem}
 use Rattle.sfx_model.specs.States.{is_id_below}
 
@@ -11,8 +8,3 @@ use Rattle.sfx_model.specs.States.{is_id_below}
 abbrev pub place_for : ItemId → List MemberItem → ℕ
 place_for i [] = zero
 place_for i (x ∷ xs) = if is_id_below x.id i then suc (place_for i xs) else zero
-
--- The first item whose place is not before this one.
-abbrev pub first_from : Cut → List MemberItem → Option MemberItem
-first_from place [] = None
-first_from place (x ∷ xs) = if cut_le place (At x.id) then Some x else first_from place xs

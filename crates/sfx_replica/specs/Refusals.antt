@@ -7,7 +7,7 @@ use Rattle.sfx_item.specs.Decided.{name_fault}
 use Rattle.sfx_model.specs.Members.{ItemState, Live, Dead, Member, state_of}
 use Rattle.sfx_replica.specs.declared.edit_fault.EditFault.{EditFault}
 use Rattle.sfx_replica.specs.declared.edit_fault.EditFault.TheVariants.{NoItem, Deleted, BadUnit, BadName, Clash, ClockFull, Memory}
-use Rattle.sfx_replica.specs.Clashes.{first_clash}
+use Rattle.sfx_model.specs.Readings.{first_clash}
 
 -- The answer agrees with what refuses the edit: it is Ok exactly where nothing does, and else this
 -- refusal. Want of memory may come in the place of either.

@@ -4,7 +4,8 @@ ghost use Rattle.std.specs.List.{position_from};
 ghost use Rattle.sfx_model.specs.Events.{same_item};
 ghost use Rattle.sfx_model.specs.Items.{item_view, items_view};
 ghost use Rattle.sfx_model.specs.States.{cells_at, with_item};
-ghost use Rattle.sfx_replica.specs.Items.{first_from, place_for};
+ghost use Rattle.sfx_model.specs.Readings.{first_from};
+ghost use Rattle.sfx_replica.specs.Items.{place_for};
 
 use sfx_ids::{Cut, ItemId, Memory, Version};
 use sfx_item::{Cell, Item, Value};

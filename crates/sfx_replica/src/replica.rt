@@ -47,9 +47,9 @@ impl<const U: usize> Replica<U> {
     ghost use Rattle.sfx_model.specs.Replica.{ActsIn, RepresentsReplica};
     ghost use Rattle.sfx_model.specs.States.{created_contents, edited_contents, next_created, next_item, next_version};
     ghost use Rattle.sfx_model.specs.World.{WellFormed, World};
-    ghost use Rattle.sfx_replica.specs.Clashes.{clashing_with};
+    ghost use Rattle.sfx_model.specs.Readings.{clashing_with};
     ghost use Rattle.sfx_replica.specs.Edits.{created, edited, new_member};
-    ghost use Rattle.sfx_replica.specs.Items.{first_from};
+    ghost use Rattle.sfx_model.specs.Readings.{first_from};
     ghost use Rattle.sfx_replica.specs.Refusals.{Refuses, create_refusal, full_clock, name_refusal, or_next, set_refusal};
 
     /// A replica that has made, learned and forgotten nothing.

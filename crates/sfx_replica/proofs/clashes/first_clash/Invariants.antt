@@ -1,7 +1,7 @@
 use Rattle.std.proofs.Common.{◌≡◌, drop}
 use Rattle.std.specs.Option.{option_copied}
 use Rattle.sfx_model.specs.Items.{items_view}
-use Rattle.sfx_replica.specs.Clashes.{first_clash}
+use Rattle.sfx_model.specs.Readings.{first_clash}
 use Rattle.sfx_replica.proofs.clashes.first_clash.Given as goal
 
 -- the items that are left give the answer

@@ -1,6 +1,6 @@
 use Rattle.std.proofs.Common.{◌≡◌, drop}
 use Rattle.sfx_model.specs.Items.{items_view}
-use Rattle.sfx_replica.specs.Items.{first_from}
+use Rattle.sfx_model.specs.Readings.{first_from}
 use Rattle.sfx_replica.proofs.items.first_from.Given as goal
 
 -- the items that are left give the answer

@@ -1,0 +1,5 @@
+pub mod Puts
+pub mod Drops
+pub mod Commits
+pub mod Walks
+pub mod Courses

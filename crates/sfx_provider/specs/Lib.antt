@@ -1,0 +1,7 @@
+pub mod Head
+pub mod Commit
+pub mod Fits
+pub mod Fault
+pub mod Exact
+pub mod Walk
+pub mod Course

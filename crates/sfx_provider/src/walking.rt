@@ -1,0 +1,32 @@
+ghost use Rattle.std.specs.Prelude.{◌≡◌, [], IfOk};
+ghost use Rattle.sfx_model.specs.Items.{items_view};
+ghost use Rattle.sfx_provider.specs.Fault.{HasCause};
+
+use crate::{Provider, ProviderFault};
+use sfx_ids::Cut;
+use sfx_item::Item;
+use std::alloc::Global;
+
+/// All items of a provider, tombstones included, in order of their ids. They are walked over one by one.
+///
+/// # Errors
+/// `Failed`, only where the provider's count of faults rose, and `Memory`.
+pub fn all_items<const U: usize, P: Provider<U>>(
+    alloc: Global,
+    provider: &mut P,
+) -> Result<Vec<Item<U>>, ProviderFault>
+    ensures value { IfOk result (λ items. items_view items.items ≡ (P.state provider.old).items) }
+    ensures state { P.state provider.new ≡ P.state provider.old }
+    ensures kept { P.kept provider.new ≡ P.kept provider.old }
+    ensures came { P.came provider.old provider.new [] }
+    ensures cause { HasCause (P.faults provider.old) (P.faults provider.new) result }
+{
+    provider.keeps();
+    let mut items = Vec::new(alloc);
+    let mut from = Cut::Start;
+    'walk: while let Some(item) = provider.next_from(alloc, &from)? {
+        from = Cut::After(item.id);
+        items.push(item)?;
+    }
+    Ok(items)
+}
