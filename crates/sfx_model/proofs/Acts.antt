@@ -27,10 +27,10 @@ use Rattle.sfx_model.proofs.Placing.{with_rising, with_found, with_others, state
 
 -- The member m becomes n as its replica makes a version of an item, of which it then has this state; its
 -- other items stay, and the items are in order of their ids.
-pub record ItemChanges (i : ItemId) (state : ItemState) (m n : Member) : Type 0 where
+pub record ItemChanges (units : ℕ) (i : ItemId) (state : ItemState) (m n : Member) : Type 0 where
   pub id : n.id ≡ m.id
   pub clock : n.clock ≡ m.clock + 1
-  pub knowledge : KnowsOthersAlike m n
+  pub knowledge : KnowsOthersAlike units m n
   pub forgotten : n.forgotten ≡ m.forgotten
   pub item : state_of n.items i ≡ Some state
   pub others : KeepsOthers i (shown m) (shown n)
@@ -39,19 +39,19 @@ pub record ItemChanges (i : ItemId) (state : ItemState) (m n : Member) : Type 0 
 -- What an item's change owes of the member.
 change_result :
     (units : ℕ) (i : ItemId) (state : ItemState) (contents : ℕ → Option Content) (m n : Member)
-    → ItemChanges i state m n
+    → ItemChanges units i state m n
     → StateResult units (next_version m) (λ u. mark_of (contents u)) (state_of m.items i) None (Some state)
     → EditResult units i (next_version m) contents (shown m) (shown n)
 change_result units i state contents m n changes result = record {
   id = changes.id;
   clock = changes.clock;
-  vectors = λ place u r. elim (cases_eq r n.id) [
+  vectors = λ place u r there small. elim (cases_eq r n.id) [
     | inl own ↦ rw (eq-eqb r n.id own) refl
     | inr other ↦
         let apart : r ≢ m.id = λ e. other (e ∙ sym changes.id) in
-        rw (ne_eqb r n.id other, ne_eqb r m.id apart) (changes.knowledge place u r apart)
+        rw (ne_eqb r n.id other, ne_eqb r m.id apart) (changes.knowledge place u r there small apart)
   ];
-  forgotten = λ place r. rw changes.forgotten refl;
+  forgotten = λ place r there. rw changes.forgotten refl;
   others = changes.others;
   item = subst (λ (o : Option ItemState). StateResult units (next_version m) (λ u. mark_of (contents u))
       (state_of m.items i) None o) (sym changes.item) result;
@@ -249,10 +249,10 @@ next_unused w s m ok has rep = by_state (state_of m.items (next_item m)) refl
 
 -- An item put in its place is a change of it.
 with_changes :
-    (m n : Member) (x : MemberItem)
-    → AreRising m.items → state_of m.items x.id ≡ None → Rises m n (with_item x m.items)
-    → ItemChanges x.id x.state m n
-with_changes m n x rising new rises = record {
+    (units : ℕ) (m n : Member) (x : MemberItem)
+    → AreRising m.items → state_of m.items x.id ≡ None → Rises units m n (with_item x m.items)
+    → ItemChanges units x.id x.state m n
+with_changes units m n x rising new rises = record {
   id = rises.id;
   clock = rises.clock;
   knowledge = rises.knowledge;
@@ -267,10 +267,10 @@ with_changes m n x rising new rises = record {
 
 -- Another state of an item is a change of it.
 state_changes :
-    (m n : Member) (i : ItemId) (old state : ItemState)
-    → AreRising m.items → state_of m.items i ≡ Some old → Rises m n (with_state i state m.items)
-    → ItemChanges i state m n
-state_changes m n i old state rising was rises = record {
+    (units : ℕ) (m n : Member) (i : ItemId) (old state : ItemState)
+    → AreRising m.items → state_of m.items i ≡ Some old → Rises units m n (with_state i state m.items)
+    → ItemChanges units i state m n
+state_changes units m n i old state rising was rises = record {
   id = rises.id;
   clock = rises.clock;
   knowledge = rises.knowledge;
@@ -286,7 +286,7 @@ state_changes m n i old state rising was rises = record {
 -- The replica made a version of an item, where that is legal.
 change_acts :
     (w : World) (m n : Member) (i : ItemId) (state : ItemState) (contents : ℕ → Option Content)
-    → WellFormed w → RepresentsReplica w m.id (shown m) → ItemChanges i state m n
+    → WellFormed w → RepresentsReplica w m.id (shown m) → ItemChanges w.units i state m n
     → Legal w (Make m.id i (next_version m) contents)
     → StateResult w.units (next_version m) (λ u. mark_of (contents u)) (state_of m.items i) None (Some state)
     → ActsIn w (Make m.id i (next_version m) contents) m.id n
@@ -302,11 +302,11 @@ change_acts w m n i state contents ok stands change legal result = record {
 pub created_acts :
     (w : World) (m n : Member) (values : List (List ℕ))
     → WellFormed w → RepresentsReplica w m.id (shown m) → AreRising m.items → m.clock < max_tick
-    → length values ≡ w.units → Rises m n (with_item (next_created m values) m.items)
+    → length values ≡ w.units → Rises w.units m n (with_item (next_created m values) m.items)
     → ActsIn w (Make m.id (next_item m) (next_version m) (created_contents values)) m.id n
 created_acts w m n values ok (s, at, is) rising room whole rises =
     change_acts w m n (next_item m) (Live (cells_at (next_version m) values)) (created_contents values) ok (s, at, is)
-    (with_changes m n (next_created m values) rising (next_unused w s m ok (found w.sites m.id s at).0 is) rises)
+    (with_changes w.units m n (next_created m values) rising (next_unused w s m ok (found w.sites m.id s at).0 is) rises)
     (legal_at w m.id s (next_item m) (next_version m) (created_contents values) at
     (created_legal w s m values is room whole))
     (LiveNow (cells_at (next_version m) values) refl
@@ -316,12 +316,12 @@ created_acts w m n values ok (s, at, is) rising room whole rises =
 pub edited_acts :
     (w : World) (m n : Member) (i : ItemId) (unit : ℕ) (value : List ℕ) (cells : List Cell)
     → WellFormed w → RepresentsReplica w m.id (shown m) → AreRising m.items → m.clock < max_tick → unit < w.units
-    → state_of m.items i ≡ Some (Live cells) → Rises m n (with_state i (Live (cells_with m cells unit value)) m.items)
+    → state_of m.items i ≡ Some (Live cells) → Rises w.units m n (with_state i (Live (cells_with m cells unit value)) m.items)
     → ActsIn w (Make m.id i (next_version m) (edited_contents unit value)) m.id n
 edited_acts w m n i unit value cells ok (s, at, is) rising room small live rises =
     change_acts w m n i (Live (slice_set cells unit (cell_of (next_version m) value))) (edited_contents unit value) ok
     (s, at, is)
-    (state_changes m n i (Live cells) (Live (cells_with m cells unit value)) rising live rises)
+    (state_changes w.units m n i (Live cells) (Live (cells_with m cells unit value)) rising live rises)
     (legal_at w m.id s i (next_version m) (edited_contents unit value) at
     (edited_legal w s m i unit value cells ok is room small live))
     (LiveNow (slice_set cells unit (cell_of (next_version m) value)) refl
@@ -337,7 +337,7 @@ deleted_here units u small = rw (lt-ltb u units small) refl
 pub deleted_acts :
     (w : World) (m n : Member) (i : ItemId) (cells : List Cell)
     → WellFormed w → RepresentsReplica w m.id (shown m) → AreRising m.items → m.clock < max_tick
-    → state_of m.items i ≡ Some (Live cells) → Rises m n (with_state i (Dead (next_version m)) m.items)
+    → state_of m.items i ≡ Some (Live cells) → Rises w.units m n (with_state i (Dead (next_version m)) m.items)
     → ActsIn w (Make m.id i (next_version m) (deleted_contents w.units)) m.id n
 deleted_acts w m n i cells ok (s, at, is) rising room live rises =
     let legal : MakeLegal w s i (next_version m) (deleted_contents w.units) = record {
@@ -349,6 +349,6 @@ deleted_acts w m n i cells ok (s, at, is) rising room live rises =
       };
     } in
     change_acts w m n i (Dead (next_version m)) (deleted_contents w.units) ok (s, at, is)
-    (state_changes m n i (Live cells) (Dead (next_version m)) rising live rises)
+    (state_changes w.units m n i (Live cells) (Dead (next_version m)) rising live rises)
     (legal_at w m.id s i (next_version m) (deleted_contents w.units) at legal)
     (DeadNow (λ u small. (Deleted, ap mark_of (deleted_here w.units u small), refl)) refl)

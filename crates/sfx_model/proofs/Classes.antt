@@ -125,7 +125,7 @@ cleaned_taken w s m snapshot i made_with state u ok meets gone small within = re
       (subst (λ (o : Option ItemState). ItemRepresents w.units w.records i (holding s i) o) gone
       (meets.represents.items i)) ((meets.carried.sound i).cells u)
       (λ v made contained. (meets.carried.backs.exact u v made).0 contained)
-      (λ r. subst (λ (t : ℕ). t ≤ made_with (At i) u r) (meets.represents.header.forgotten (At i) r)
+      (λ r. subst (λ (t : ℕ). t ≤ made_with (At i) u r) (meets.represents.header.forgotten (At i) r tt)
       (within u r small));
   present = meets.carried.state.is_present;
 }
@@ -186,7 +186,7 @@ dropped_legal w s m snapshot i made_with state u ok meets at small has forgotten
         deletes,
         le_trans contained
             (subst (λ (t : ℕ). snapshot.forgotten (At i) d.replica ≤ t)
-            (meets.represents.header.forgotten (At i) d.replica) (forgotten d.replica)),
+            (meets.represents.header.forgotten (At i) d.replica tt) (forgotten d.replica)),
       );
 }
 

@@ -5,6 +5,7 @@ use Rattle.sfx_ids.specs.declared.cut.Cut.{Cut}
 use Rattle.sfx_ids.specs.declared.cut.Cut.TheVariants.{At}
 use Rattle.sfx_ids.specs.declared.item_id.ItemId.{ItemId}
 use Rattle.sfx_ids.specs.declared.version.Version.{Version}
+use Rattle.sfx_segments.specs.Segments.{IsPlace}
 use Rattle.sfx_ids.specs.Cut.{is_between}
 use Rattle.sfx_model.specs.Sets.{Has}
 use Rattle.sfx_model.specs.World.{World, Site, Snapshot, WellFormed, holding, Made}
@@ -15,6 +16,7 @@ use Rattle.sfx_model.proofs.Frame.{grows_self}
 use Rattle.sfx_model.proofs.Sites.{site_there, clock_has, clock_grows}
 use Rattle.sfx_model.proofs.Steps.{same_item_is, same_item_self}
 use Rattle.sfx_model.proofs.Overlay.{items_after, item_as}
+use Rattle.sfx_model.proofs.Headline.{made_below}
 
 -- The tick of a made version is at most the clock of its replica.
 pub made_clock :
@@ -37,10 +39,10 @@ pub record IsQuiet (w : World) (s new : Site) (m n : Shown) : Type 0 where
   pub known : (j : ItemId) → new.known j ≡ s.known j
   pub id : n.id ≡ m.id
   pub clock : n.clock ≡ m.clock
-  pub vectors : SameVectors n.vector_at m.vector_at
+  pub vectors : SameVectors w.units n.vector_at m.vector_at
   pub items : (j : ItemId) → ItemRepresents w.units w.records j (holding new j) (state_of n.items j)
-  pub forgotten : (place : Cut) (r : ℕ) → n.forgotten place r ≡ new.forgotten place r
-  pub forgotten_bounded : (place : Cut) (r : ℕ) → n.forgotten place r ≤ clock_of w.sites r
+  pub forgotten : (place : Cut) (r : ℕ) → IsPlace place → n.forgotten place r ≡ new.forgotten place r
+  pub forgotten_bounded : (place : Cut) (r : ℕ) → IsPlace place → n.forgotten place r ≤ clock_of w.sites r
 
 quiet_stands :
     (w : World) (s new : Site) (m n : Shown)
@@ -48,7 +50,7 @@ quiet_stands :
     → Represents (record w { sites = put_site new w.sites }) new n
 quiet_stands w s new m n ok has rep quiet = record {
   exact = λ i u v made.
-      let entry = quiet.vectors (At i) u v.replica in
+      let entry = quiet.vectors (At i) u v.replica tt (made_below w i u v ok made) in
       let exact = rep.exact i u v made in (
         (λ contains. subst (λ (f : ℕ → List Version). Has v (f u)) (sym (quiet.known i))
             (exact.0 (subst (λ (t : ℕ). v.tick ≤ t) entry contains))),
@@ -63,9 +65,9 @@ quiet_stands w s new m n ok has rep quiet = record {
     forgotten = quiet.forgotten;
   };
   bounded = record {
-    vectors = λ place u r. let up = grown r in let low = rep.bounded.vectors place u r in let e =
-        quiet.vectors place u r in omega arith;
-    forgotten = λ place r. let up = grown r in let low = quiet.forgotten_bounded place r in omega arith;
+    vectors = λ place u r there small. let up = grown r in let low = rep.bounded.vectors place u r there small in
+        let e = quiet.vectors place u r there small in omega arith;
+    forgotten = λ place r there. let up = grown r in let low = quiet.forgotten_bounded place r there in omega arith;
   };
 }
   where
@@ -105,7 +107,7 @@ raised_bounded w forgotten v lo hi place r low before = by_test (is_between lo h
 -- A member that cleaned an item away represents its site.
 pub clean_stands :
     (w : World) (s : Site) (i : ItemId) (v : Version) (lo hi : Cut) (m n : Shown)
-    → WellFormed w → Has s w.sites → CleanLegal w s i v lo hi → Represents w s m → CleanResult i v lo hi m n
+    → WellFormed w → Has s w.sites → CleanLegal w s i v lo hi → Represents w s m → CleanResult w.units i v lo hi m n
     → Represents (cleaned w s i v lo hi) (site_cleaned s i v lo hi) n
 clean_stands w s i v lo hi m n ok has legal rep result =
     quiet_stands w s (site_cleaned s i v lo hi) m n ok has rep (record {
@@ -119,9 +121,10 @@ clean_stands w s i v lo hi m n ok has legal rep result =
           result.others (λ j other. (rw other refl, rw other refl))
           (subst (λ (o : _). ItemRepresents w.units w.records i (holding (site_cleaned s i v lo hi) i) o)
           (sym result.item) (rw (same_item_self i) refl));
-      forgotten = λ place r. result.forgotten place r ∙ rw (rep.header.forgotten place r) refl;
-      forgotten_bounded = λ place r. subst (λ (t : ℕ). t ≤ clock_of w.sites r) (sym (result.forgotten place r))
-          (raised_bounded w m.forgotten v lo hi place r low (rep.bounded.forgotten place r));
+      forgotten = λ place r there. result.forgotten place r there ∙ rw (rep.header.forgotten place r there) refl;
+      forgotten_bounded = λ place r there. subst (λ (t : ℕ). t ≤ clock_of w.sites r)
+          (sym (result.forgotten place r there))
+          (raised_bounded w m.forgotten v lo hi place r low (rep.bounded.forgotten place r there));
     })
   where
     low : v.tick ≤ clock_of w.sites v.replica
@@ -144,23 +147,23 @@ joined_bounded w forgotten seen lo hi place r high before = by_test (is_between 
 -- Forgotten deletions joined with what backs a snapshot's are joined with the snapshot's.
 joined_same :
     (w : World) (snapshot : Snapshot) (forgotten here seen : Cut → ℕ → ℕ) (lo hi place : Cut) (r : ℕ)
-    → BacksForgotten w snapshot lo hi seen → forgotten place r ≡ here place r
+    → BacksForgotten w snapshot lo hi seen → IsPlace place → forgotten place r ≡ here place r
     → forgotten_joined forgotten seen lo hi place r ≡ forgotten_joined here snapshot.forgotten lo hi place r
-joined_same w snapshot forgotten here seen lo hi place r backs same = by_test (is_between lo hi place) refl
+joined_same w snapshot forgotten here seen lo hi place r backs there same = by_test (is_between lo hi place) refl
   where
     by_test :
         (b : Bool)
         → is_between lo hi place ≡ b
         → (if b then max (forgotten place r) (seen place r) else forgotten place r) ≡ (if b then max (here place r)
         (snapshot.forgotten place r) else here place r)
-    by_test true e = rw (same, backs.same place r e) refl
+    by_test true e = rw (same, backs.same place r there e) refl
     by_test false e = same
 
 -- A member that joined a snapshot's forgotten deletions represents its site.
 pub forget_stands :
     (w : World) (s : Site) (snapshot : Snapshot) (seen : Cut → ℕ → ℕ) (lo hi : Cut) (m n : Shown)
     → WellFormed w → Has s w.sites → Represents w s m → BacksForgotten w snapshot lo hi seen
-    → ForgetResult seen lo hi m n → Represents (forgot w s snapshot lo hi) (site_forgot s snapshot lo hi) n
+    → ForgetResult w.units seen lo hi m n → Represents (forgot w s snapshot lo hi) (site_forgot s snapshot lo hi) n
 forget_stands w s snapshot seen lo hi m n ok has rep backs result =
     quiet_stands w s (site_forgot s snapshot lo hi) m n ok has rep (record {
       site_id = refl;
@@ -172,9 +175,11 @@ forget_stands w s snapshot seen lo hi m n ok has rep backs result =
       items = λ j. item_as w.units w.records j (holding s j) (holding (site_forgot s snapshot lo hi) j)
           (state_of n.items j) refl refl
           (subst (λ (o : _). ItemRepresents w.units w.records j (holding s j) o) (sym (result.items j)) (rep.items j));
-      forgotten = λ place r. result.forgotten place r ∙ joined_same w snapshot m.forgotten s.forgotten seen lo hi place r
-          backs (rep.header.forgotten place r);
-      forgotten_bounded = λ place r. subst (λ (t : ℕ). t ≤ clock_of w.sites r) (sym (result.forgotten place r))
-          (joined_bounded w m.forgotten seen lo hi place r (λ in_range. backs.bounded place r in_range)
-          (rep.bounded.forgotten place r));
+      forgotten = λ place r there. result.forgotten place r there
+          ∙ joined_same w snapshot m.forgotten s.forgotten seen lo hi place r backs there
+          (rep.header.forgotten place r there);
+      forgotten_bounded = λ place r there. subst (λ (t : ℕ). t ≤ clock_of w.sites r)
+          (sym (result.forgotten place r there))
+          (joined_bounded w m.forgotten seen lo hi place r (λ in_range. backs.bounded place r there in_range)
+          (rep.bounded.forgotten place r there));
     })

@@ -17,6 +17,7 @@ use Rattle.sfx_model.proofs.Steps.{same_item_is, same_item_self}
 use Rattle.sfx_model.proofs.Recording.{record_of, recorded_new, made_latest, made_deletes}
 use Rattle.sfx_model.proofs.Sites.{site_there}
 use Rattle.sfx_model.proofs.Making.{make_step}
+use Rattle.sfx_model.proofs.Headline.{made_below}
 
 -- The cell of a unit after an edit, by what the edit has for the unit: the cell as it was, or the new one.
 cell_made :
@@ -183,10 +184,12 @@ edit_moves :
 edit_moves w s i v contents m n ok has legal rep result g = record {
   id = own;
   clock = result.clock;
-  own = λ place u. own_entry n m.vector_at s.id place u result.vectors (sym own) ∙ result.clock;
+  own = λ place u there small. own_entry w.units n m.vector_at s.id place u result.vectors (sym own) there small
+      ∙ result.clock;
   others = λ j u x made other.
       let entry : n.vector_at (At j) u x.replica ≡ m.vector_at (At j) u x.replica =
-      other_entry n m.vector_at (At j) u x.replica result.vectors (λ same. other (same ∙ own)) in
+      other_entry w.units n m.vector_at (At j) u x.replica result.vectors (λ same. other (same ∙ own)) tt
+      (made_below w j u x ok made) in
       let exact = rep.exact j u x made in
       let known = known_after j u x (λ same. other (same ∙ legal.fresh.replica)) in (
         (λ contains. known.1 (exact.0 (subst (λ (t : ℕ). x.tick ≤ t) entry contains))),
@@ -197,12 +200,12 @@ edit_moves w s i v contents m n ok has legal rep result g = record {
       (subst (λ (h : Holding). ItemRepresents w.units qs i h (state_of n.items i)) (sym held)
       (item_made w s i v contents (state_of m.items i) (state_of n.items i) (ok.counted s has) legal g
       (rep.items i) result.item));
-  forgotten = λ place r. result.forgotten place r ∙ rep.header.forgotten place r;
-  bounded = λ place u r other. subst (λ (t : ℕ). t ≤ clock_of w.sites r)
-      (sym (other_entry n m.vector_at place u r result.vectors (λ same. other (same ∙ own))))
-      (rep.bounded.vectors place u r);
-  forgotten_bounded = λ place r. subst (λ (t : ℕ). t ≤ clock_of w.sites r) (sym (result.forgotten place r))
-      (rep.bounded.forgotten place r);
+  forgotten = λ place r there. result.forgotten place r there ∙ rep.header.forgotten place r there;
+  bounded = λ place u r there small other. subst (λ (t : ℕ). t ≤ clock_of w.sites r)
+      (sym (other_entry w.units n m.vector_at place u r result.vectors (λ same. other (same ∙ own)) there small))
+      (rep.bounded.vectors place u r there small);
+  forgotten_bounded = λ place r there. subst (λ (t : ℕ). t ≤ clock_of w.sites r) (sym (result.forgotten place r there))
+      (rep.bounded.forgotten place r there);
 }
   where
     qs : List Record

@@ -93,12 +93,12 @@ entry_exact w s snapshot i v marks made_with m j u x ok legal rep backs made oth
 entry_bounded :
     (w : World) (snapshot : Snapshot) (i : ItemId) (marks : ℕ → UnitMark) (here made_with : Cut → ℕ → ℕ → ℕ)
     (place : Cut) (u r : ℕ)
-    → Backs w snapshot i made_with → here place u r ≤ clock_of w.sites r
+    → Backs w snapshot i made_with → u < w.units → here place u r ≤ clock_of w.sites r
     → joined_at i marks here made_with place u r ≤ clock_of w.sites r
-entry_bounded w snapshot i marks here made_with Start u r backs low = low
-entry_bounded w snapshot i marks here made_with (After j) u r backs low = low
-entry_bounded w snapshot i marks here made_with End u r backs low = low
-entry_bounded w snapshot i marks here made_with (At j) u r backs low = by_test (same_item j i) refl
+entry_bounded w snapshot i marks here made_with Start u r backs small low = low
+entry_bounded w snapshot i marks here made_with (After j) u r backs small low = low
+entry_bounded w snapshot i marks here made_with End u r backs small low = low
+entry_bounded w snapshot i marks here made_with (At j) u r backs small low = by_test (same_item j i) refl
   where
     by_test :
         (b : Bool)
@@ -107,7 +107,7 @@ entry_bounded w snapshot i marks here made_with (At j) u r backs low = by_test (
         w.sites r
     by_test true e = unit_bounded (marks u) (here (At j) u r) (made_with (At j) u r) (clock_of w.sites r) low
         (subst (λ (k : ItemId). made_with (At k) u r ≤ clock_of w.sites r) (sym (same_item_is j i e))
-        (backs.bounded u r))
+        (backs.bounded u r small))
     by_test false e = low
 
 -- The cell of a unit of a live result is the latest.
@@ -281,12 +281,12 @@ apply_stands w s snapshot i v marks seen made_with m n ok has legal rep backs th
     (site_there w.sites s ok.distinct has) ok (entry_step w s snapshot i v marks entry) (record {
       id = own;
       clock = clock;
-      own = λ place u. own_entry n (joined_at i marks m.vector_at made_with) s.id place u result.vectors (sym own) ∙
-          clock;
+      own = λ place u there small. own_entry w.units n (joined_at i marks m.vector_at made_with) s.id place u
+          result.vectors (sym own) there small ∙ clock;
       others = λ j u x made other.
           let at : n.vector_at (At j) u x.replica ≡ joined_at i marks m.vector_at made_with (At j) u x.replica =
-          other_entry n (joined_at i marks m.vector_at made_with) (At j) u x.replica result.vectors
-          (λ same. other (same ∙ own)) in
+          other_entry w.units n (joined_at i marks m.vector_at made_with) (At j) u x.replica result.vectors
+          (λ same. other (same ∙ own)) tt (made_below w j u x ok made) in
           let exact = entry_exact w s snapshot i v marks made_with m j u x ok legal rep backs made other in (
             (λ contains. exact.0 (subst (λ (t : ℕ). x.tick ≤ t) at contains)),
             (λ known. subst (λ (t : ℕ). x.tick ≤ t) (sym at) (exact.1 known)),
@@ -298,13 +298,14 @@ apply_stands w s snapshot i v marks seen made_with m n ok has legal rep backs th
           (state_of n.items i)) (sym held)
           (item_applied w s snapshot i v marks (state_of m.items i) seen (state_of n.items i) entry (rep.items i)
           there result.item));
-      forgotten = λ place r. result.forgotten place r ∙ rep.header.forgotten place r;
-      bounded = λ place u r other. subst (λ (t : ℕ). t ≤ clock_of w.sites r)
-          (sym (other_entry n (joined_at i marks m.vector_at made_with) place u r result.vectors
-          (λ same. other (same ∙ own))))
-          (entry_bounded w snapshot i marks m.vector_at made_with place u r backs (rep.bounded.vectors place u r));
-      forgotten_bounded = λ place r. subst (λ (t : ℕ). t ≤ clock_of w.sites r) (sym (result.forgotten place r))
-          (rep.bounded.forgotten place r);
+      forgotten = λ place r at. result.forgotten place r at ∙ rep.header.forgotten place r at;
+      bounded = λ place u r at small other. subst (λ (t : ℕ). t ≤ clock_of w.sites r)
+          (sym (other_entry w.units n (joined_at i marks m.vector_at made_with) place u r result.vectors
+          (λ same. other (same ∙ own)) at small))
+          (entry_bounded w snapshot i marks m.vector_at made_with place u r backs small
+          (rep.bounded.vectors place u r at small));
+      forgotten_bounded = λ place r at. subst (λ (t : ℕ). t ≤ clock_of w.sites r) (sym (result.forgotten place r at))
+          (rep.bounded.forgotten place r at);
     })
   where
     entry : Entry w s snapshot i v marks

@@ -38,7 +38,7 @@ held_of w s m i u v None ok rep small stands has =
       deletes,
       (rep.exact i u d (deletes.0, deletes.1, deletes.2)).1 has_d,
       subst (λ (n : ℕ). d.tick ≤ n)
-          (sym (rep.header.forgotten (At i) d.replica)) within,
+          (sym (rep.header.forgotten (At i) d.replica tt)) within,
     )
 held_of w s m i u v (Some (Live cells)) ok rep small stands has =
     let (c, is) = cell_there cells u (omega (arith, stands.latest.whole)) in
@@ -112,7 +112,7 @@ known_there w s t m n i u v ok has_s rep_m rep_n same has =
     let made : Made w.records i u v = ((ok.sound s has_s i).cells u).made v has in
     let small = made_below w i u v ok made in
     let contains = (rep_m.exact i u v made).1 has in
-    (rep_n.exact i u v made).0 (subst (λ (x : ℕ). v.tick ≤ x) (same (At i) u v.replica small) contains)
+    (rep_n.exact i u v made).0 (subst (λ (x : ℕ). v.tick ≤ x) (same (At i) u v.replica tt small) contains)
 
 -- At two members of equal knowledge a cell has one latest version
 one_latest_of_both :
@@ -123,7 +123,7 @@ one_latest_of_both :
 one_latest_of_both w s t m n i u a b ok has_s has_t rep_m rep_n same is_a is_b =
     one_of_both w.records i u a b ok.history
     (is_b.1 a (known_there w s t m n i u a ok has_s rep_m rep_n same is_a.0))
-    (is_a.1 b (known_there w t s n m i u b ok has_t rep_n rep_m (λ at x r small. sym (same at x r small)) is_b.0))
+    (is_a.1 b (known_there w t s n m i u b ok has_t rep_n rep_m (λ at x r there small. sym (same at x r there small)) is_b.0))
 
 -- A list of cells is told by its cells
 same_cells :
@@ -172,7 +172,7 @@ live_there w s t m n i cells None ok has_s has_t rep_m rep_n same live stands =
     (ok.sound t has_t i).cleaned stands 0 c.version
     (known_there w s t m n i 0 c.version ok has_s rep_m rep_n same cell.latest.0) in
     let back : Precedes w.records i 0 d c.version =
-    cell.latest.1 d (known_there w t s n m i 0 d ok has_t rep_n rep_m (λ at x r small. sym (same at x r small))
+    cell.latest.1 d (known_there w t s n m i 0 d ok has_t rep_n rep_m (λ at x r there small. sym (same at x r there small))
     has_d) in
     let one : d ≡ c.version = one_of_both w.records i 0 d c.version ok.history back before in
     absurd (no_deletion w.records i 0 c.version c.value ok.history cell.value
@@ -184,7 +184,7 @@ live_there w s t m n i cells (Some (Dead d)) ok has_s has_t rep_m rep_n same liv
     let dead = stands.latest 0 counted in
     let one : d ≡ c.version =
     one_latest_of_both w t s n m i 0 d c.version ok has_t has_s rep_n rep_m
-    (λ at x r small. sym (same at x r small)) dead.0 cell.latest in
+    (λ at x r there small. sym (same at x r there small)) dead.0 cell.latest in
     absurd (no_deletion w.records i 0 c.version c.value ok.history cell.value
     (subst (λ (x : Version). IsDeletion w.records i 0 x) one dead.1))
 live_there w s t m n i cells (Some (Live others)) ok has_s has_t rep_m rep_n same live stands =
@@ -192,7 +192,7 @@ live_there w s t m n i cells (Some (Live others)) ok has_s has_t rep_m rep_n sam
     let equal : others ≡ cells = same_cells others cells (omega (arith, here.whole, live.whole)) (λ u x y x_is y_is.
     same_cell w.records i u (t.known i u) (s.known i u) x y ok.history
     (one_latest_of_both w t s n m i u x.version y.version ok has_t has_s rep_n rep_m
-    (λ at z r small. sym (same at z r small)) (here.each u x x_is).latest (live.each u y y_is).latest)
+    (λ at z r there small. sym (same at z r there small)) (here.each u x x_is).latest (live.each u y y_is).latest)
     (here.each u x x_is) (live.each u y y_is)) in
     cc
 
@@ -214,7 +214,7 @@ pub equal_live :
 equal_live w s t m n ok has_s has_t rep_m rep_n rising others same =
     live_equal m.items n.items rising others
     (λ i cells. same_live w s t m n i cells ok has_s has_t rep_m rep_n same)
-    (λ i cells. same_live w t s n m i cells ok has_t has_s rep_n rep_m (λ at u r small. sym (same at u r small)))
+    (λ i cells. same_live w t s n m i cells ok has_t has_s rep_n rep_m (λ at u r there small. sym (same at u r there small)))
 
 -- The site that a named member represents, among these.
 abbrev pub NamedSite : World → List Site → NamedMember → Type 0

@@ -1,5 +1,5 @@
 -- A replica that joins: its new member represents it, and the members of the others stay.
-use Rattle.std.proofs.Common.{◌≡◌, ◌≢◌, ℕ, ◌≤◌, nat_eq, Bool, true, false, if◌then◌else◌, List, [], ◌∷◌, ◌++◌, Some, inl, inr, refl, sym, ap, subst, arith}
+use Rattle.std.proofs.Common.{◌≡◌, ◌≢◌, ℕ, ◌<◌, ◌≤◌, nat_eq, Bool, true, false, if◌then◌else◌, List, [], ◌∷◌, ◌++◌, Some, inl, inr, refl, sym, ap, subst, arith}
 use Rattle.std.proofs.lemmas.Bool.{eq-eqb, eqb-true}
 use Rattle.sfx_ids.specs.declared.cut.Cut.TheVariants.{At}
 use Rattle.sfx_ids.specs.declared.version.Version.{Version}
@@ -56,29 +56,30 @@ join_others w name id s m rep = record {
   items = rep.items;
   header = rep.header;
   bounded = record {
-    vectors = λ place u r. let up = clock_still w.sites (new_site name id) r in let low =
-        rep.bounded.vectors place u r in omega arith;
-    forgotten = λ place r. let up = clock_still w.sites (new_site name id) r in let low =
-        rep.bounded.forgotten place r in omega arith;
+    vectors = λ place u r there small. let up = clock_still w.sites (new_site name id) r in let low =
+        rep.bounded.vectors place u r there small in omega arith;
+    forgotten = λ place r there. let up = clock_still w.sites (new_site name id) r in let low =
+        rep.bounded.forgotten place r there in omega arith;
   };
 }
 
 -- The member of the new replica represents its site.
 pub join_new :
     (w : World) (name : List ℕ) (id : ℕ) (m : Shown)
-    → WellFormed w → IsNewMember id m → Represents (joined w name id) (new_site name id) m
+    → WellFormed w → IsNewMember w.units id m → Represents (joined w name id) (new_site name id) m
 join_new w name id m ok new = record {
   exact = λ i u v made.
       let (s, has, maker) = (ok.records made.0 made.1).maker in
+      let small : u < w.units = subst (λ (x : ℕ). x < w.units) made.2.unit (ok.records made.0 made.1).unit in
       let ticks : made.0.version.tick ≡ v.tick = ap (λ (x : Version). x.tick) made.2.version in (
-        (λ contains. let e = new.vectors (At i) u v.replica in absurd (omega (arith, maker.least))),
+        (λ contains. let e = new.vectors (At i) u v.replica tt small in absurd (omega (arith, maker.least))),
         (λ has_v. absurd has_v),
       );
   items = λ i. subst (λ (xs : List MemberItem). ItemRepresents w.units w.records i (holding (new_site name id) i)
       (state_of xs i)) (sym new.items) refl;
   header = record { id = new.id_is; clock = new.clock; forgotten = new.forgotten };
   bounded = record {
-    vectors = λ place u r. let e = new.vectors place u r in omega arith;
-    forgotten = λ place r. let e = new.forgotten place r in omega arith;
+    vectors = λ place u r there small. let e = new.vectors place u r there small in omega arith;
+    forgotten = λ place r there. let e = new.forgotten place r there in omega arith;
   };
 }

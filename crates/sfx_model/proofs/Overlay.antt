@@ -5,6 +5,7 @@ use Rattle.std.proofs.lemmas.Bool.{cases_lt, eq-eqb, ne_eqb}
 use Rattle.sfx_ids.specs.declared.cut.Cut.{Cut}
 use Rattle.sfx_ids.specs.declared.item_id.ItemId.{ItemId}
 use Rattle.sfx_ids.specs.declared.version.Version.{Version}
+use Rattle.sfx_segments.specs.Segments.{IsPlace}
 use Rattle.sfx_item.specs.declared.cell.Cell.{Cell}
 use Rattle.sfx_model.specs.Sets.{Has}
 use Rattle.sfx_model.specs.World.{Record, Site, Holding, holding}
@@ -19,15 +20,17 @@ use Rattle.sfx_model.proofs.Standing.{item_on}
 
 -- The own entry of knowledge with the own clock laid over it.
 pub own_entry :
-    (m : Shown) (vectors : Cut → ℕ → ℕ → ℕ) (own : ℕ) (place : Cut) (u : ℕ)
-    → SameVectors m.vector_at (with_own m.id m.clock vectors) → own ≡ m.id → m.vector_at place u own ≡ m.clock
-own_entry m vectors own place u same is = same place u own ∙ (rw (eq-eqb own m.id is) refl)
+    (units : ℕ) (m : Shown) (vectors : Cut → ℕ → ℕ → ℕ) (own : ℕ) (place : Cut) (u : ℕ)
+    → SameVectors units m.vector_at (with_own m.id m.clock vectors) → own ≡ m.id → IsPlace place → u < units
+    → m.vector_at place u own ≡ m.clock
+own_entry units m vectors own place u same is there small = same place u own there small ∙ (rw (eq-eqb own m.id is) refl)
 
 -- Every other entry is as it was.
 pub other_entry :
-    (m : Shown) (vectors : Cut → ℕ → ℕ → ℕ) (place : Cut) (u r : ℕ)
-    → SameVectors m.vector_at (with_own m.id m.clock vectors) → r ≢ m.id → m.vector_at place u r ≡ vectors place u r
-other_entry m vectors place u r same other = same place u r ∙ (rw (ne_eqb r m.id other) refl)
+    (units : ℕ) (m : Shown) (vectors : Cut → ℕ → ℕ → ℕ) (place : Cut) (u r : ℕ)
+    → SameVectors units m.vector_at (with_own m.id m.clock vectors) → r ≢ m.id → IsPlace place → u < units
+    → m.vector_at place u r ≡ vectors place u r
+other_entry units m vectors place u r same other there small = same place u r there small ∙ (rw (ne_eqb r m.id other) refl)
 
 -- Whether a member has an item as a site has it depends on what the site knows of it and on its presence.
 pub item_as :

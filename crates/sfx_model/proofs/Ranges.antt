@@ -1,10 +1,11 @@
 -- A member that learned a range goes on representing its site.
-use Rattle.std.proofs.Common.{◌≡◌, ℕ, ◌≤◌, max, ◌↔◌, not, ◌&&◌, Bool, true, false, if◌then◌else◌, ◌++◌, Option, Some, None, inl, inr, refl, sym, ◌∙◌, subst, arith}
+use Rattle.std.proofs.Common.{◌≡◌, ℕ, ◌<◌, ◌≤◌, max, ◌↔◌, not, ◌&&◌, Bool, true, false, if◌then◌else◌, ◌++◌, Option, Some, None, inl, inr, refl, sym, ◌∙◌, subst, arith}
 use Rattle.std.proofs.lemmas.Bool.{and_parts}
 use Rattle.sfx_ids.specs.declared.cut.Cut.{Cut}
 use Rattle.sfx_ids.specs.declared.cut.Cut.TheVariants.{At}
 use Rattle.sfx_ids.specs.declared.item_id.ItemId.{ItemId}
 use Rattle.sfx_ids.specs.declared.version.Version.{Version}
+use Rattle.sfx_segments.specs.Segments.{IsPlace}
 use Rattle.sfx_ids.specs.Cut.{is_between}
 use Rattle.sfx_model.specs.Sets.{Has, IsPart}
 use Rattle.sfx_model.specs.World.{World, Site, Snapshot, WellFormed, holding, Made}
@@ -15,6 +16,7 @@ use Rattle.sfx_model.proofs.Frame.{grows_self}
 use Rattle.sfx_model.proofs.Sites.{site_there}
 use Rattle.sfx_model.proofs.Learning.{learn_step, learned_same}
 use Rattle.sfx_model.proofs.Standing.{moved_stands}
+use Rattle.sfx_model.proofs.Headline.{made_below}
 use Rattle.sfx_model.proofs.Overlay.{own_entry, other_entry, item_same, exact_joined}
 
 -- A learned cell of exact knowledge.
@@ -41,9 +43,9 @@ learned_exact w s snapshot lo hi left made_with m i u v rep backs made = by_test
 learned_bounded :
     (w : World) (snapshot : Snapshot) (lo hi : Cut) (left : ItemId → ℕ → Bool) (here made_with : Cut → ℕ → ℕ → ℕ)
     (place : Cut) (u r : ℕ)
-    → BacksRange w snapshot lo hi made_with → here place u r ≤ clock_of w.sites r
+    → BacksRange w snapshot lo hi made_with → IsPlace place → u < w.units → here place u r ≤ clock_of w.sites r
     → joined_in lo hi left here made_with place u r ≤ clock_of w.sites r
-learned_bounded w snapshot lo hi left here made_with place u r backs low =
+learned_bounded w snapshot lo hi left here made_with place u r backs there small low =
     by_test (is_between lo hi place && not (is_left_at left place u)) refl
   where
     by_test :
@@ -51,7 +53,7 @@ learned_bounded w snapshot lo hi left here made_with place u r backs low =
         → (is_between lo hi place && not (is_left_at left place u)) ≡ b
         → (if b then max (here place u r) (made_with place u r) else here place u r) ≤ clock_of w.sites r
     by_test true e = let other =
-        backs.bounded place u r (and_parts (is_between lo hi place) (not (is_left_at left place u)) e).0 in
+        backs.bounded place u r there small (and_parts (is_between lo hi place) (not (is_left_at left place u)) e).0 in
         omega arith
     by_test false e = low
 
@@ -92,19 +94,19 @@ pub learn_stands :
     (w : World) (s : Site) (snapshot : Snapshot) (lo hi : Cut) (left : ItemId → ℕ → Bool)
     (made_with : Cut → ℕ → ℕ → ℕ) (m n : Shown)
     → WellFormed w → Has s w.sites → LearnLegal w s snapshot lo hi left → Represents w s m
-    → BacksRange w snapshot lo hi made_with → LearnResult lo hi left made_with m n
+    → BacksRange w snapshot lo hi made_with → LearnResult w.units lo hi left made_with m n
     → Represents (learned w s snapshot lo hi left) (site_learned s snapshot lo hi left) n
 learn_stands w s snapshot lo hi left made_with m n ok has legal rep backs result =
     moved_stands w s (site_learned s snapshot lo hi left) w.records n (site_there w.sites s ok.distinct has) ok
     (learn_step w s snapshot lo hi left ok has legal) (record {
       id = own;
       clock = result.clock ∙ rep.header.clock;
-      own = λ place u. own_entry n (joined_in lo hi left m.vector_at made_with) s.id place u result.vectors (sym own)
-          ∙ result.clock ∙ rep.header.clock;
+      own = λ place u there small. own_entry w.units n (joined_in lo hi left m.vector_at made_with) s.id place u
+          result.vectors (sym own) there small ∙ result.clock ∙ rep.header.clock;
       others = λ i u v made other.
           let entry : n.vector_at (At i) u v.replica ≡ joined_in lo hi left m.vector_at made_with (At i) u v.replica =
-          other_entry n (joined_in lo hi left m.vector_at made_with) (At i) u v.replica result.vectors
-          (λ same. other (same ∙ own)) in
+          other_entry w.units n (joined_in lo hi left m.vector_at made_with) (At i) u v.replica result.vectors
+          (λ same. other (same ∙ own)) tt (made_below w i u v ok made) in
           let exact = learned_exact w s snapshot lo hi left made_with m i u v rep backs made in (
             (λ contains. exact.0 (subst (λ (t : ℕ). v.tick ≤ t) entry contains)),
             (λ there. subst (λ (t : ℕ). v.tick ≤ t) (sym entry) (exact.1 there)),
@@ -112,14 +114,14 @@ learn_stands w s snapshot lo hi left made_with m n ok has legal rep backs result
       items = λ i. subst (λ (o : Option ItemState). ItemRepresents w.units w.records i
           (holding (site_learned s snapshot lo hi left) i) o) (sym (result.items i))
           (learned_item w s snapshot lo hi left i (state_of m.items i) legal (rep.items i));
-      forgotten = λ place r. result.forgotten place r ∙ rep.header.forgotten place r;
-      bounded = λ place u r other. subst (λ (t : ℕ). t ≤ clock_of w.sites r)
-          (sym (other_entry n (joined_in lo hi left m.vector_at made_with) place u r result.vectors
-          (λ same. other (same ∙ own))))
-          (learned_bounded w snapshot lo hi left m.vector_at made_with place u r backs
-          (rep.bounded.vectors place u r));
-      forgotten_bounded = λ place r. subst (λ (t : ℕ). t ≤ clock_of w.sites r) (sym (result.forgotten place r))
-          (rep.bounded.forgotten place r);
+      forgotten = λ place r there. result.forgotten place r there ∙ rep.header.forgotten place r there;
+      bounded = λ place u r there small other. subst (λ (t : ℕ). t ≤ clock_of w.sites r)
+          (sym (other_entry w.units n (joined_in lo hi left m.vector_at made_with) place u r result.vectors
+          (λ same. other (same ∙ own)) there small))
+          (learned_bounded w snapshot lo hi left m.vector_at made_with place u r backs there small
+          (rep.bounded.vectors place u r there small));
+      forgotten_bounded = λ place r there. subst (λ (t : ℕ). t ≤ clock_of w.sites r)
+          (sym (result.forgotten place r there)) (rep.bounded.forgotten place r there);
     })
   where
     own : n.id ≡ s.id

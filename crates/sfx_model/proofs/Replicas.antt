@@ -85,7 +85,7 @@ others_stand w (Learn id snapshot lo hi left) r m ok legal other stands =
 -- The member of a replica that joined.
 pub joined_stands :
     (w : World) (name : List ℕ) (id : ℕ) (m : Shown)
-    → WellFormed w → Legal w (Join name id) → IsNewMember id m → RepresentsReplica (after w (Join name id)) id m
+    → WellFormed w → Legal w (Join name id) → IsNewMember w.units id m → RepresentsReplica (after w (Join name id)) id m
 joined_stands w name id m ok legal new =
     (new_site name id, found_new w.sites (new_site name id) legal.new_id, join_new w name id m ok new)
 
@@ -122,7 +122,7 @@ edit_replica w r i v contents m n ok legal stands result =
 
 pub clean_replica :
     (w : World) (r : ℕ) (i : ItemId) (v : Version) (lo hi : Cut) (m n : Shown)
-    → WellFormed w → Legal w (Clean r i v lo hi) → RepresentsReplica w r m → CleanResult i v lo hi m n
+    → WellFormed w → Legal w (Clean r i v lo hi) → RepresentsReplica w r m → CleanResult w.units i v lo hi m n
     → RepresentsReplica (after w (Clean r i v lo hi)) r n
 clean_replica w r i v lo hi m n ok legal stands result =
     at_site_holds w r (λ t. cleaned w t i v lo hi) (λ t. CleanLegal w t i v lo hi) (λ x. RepresentsReplica x r n)
@@ -136,7 +136,7 @@ clean_replica w r i v lo hi m n ok legal stands result =
 pub forget_replica :
     (w : World) (r : ℕ) (snapshot : Snapshot) (seen : Cut → ℕ → ℕ) (lo hi : Cut) (m n : Shown)
     → WellFormed w → Legal w (Forget r snapshot lo hi) → RepresentsReplica w r m
-    → BacksForgotten w snapshot lo hi seen → ForgetResult seen lo hi m n
+    → BacksForgotten w snapshot lo hi seen → ForgetResult w.units seen lo hi m n
     → RepresentsReplica (after w (Forget r snapshot lo hi)) r n
 forget_replica w r snapshot seen lo hi m n ok legal stands backs result =
     at_site_holds w r (λ t. forgot w t snapshot lo hi) (λ t. _) (λ x. RepresentsReplica x r n)
@@ -168,7 +168,7 @@ pub learn_replica :
     (w : World) (r : ℕ) (snapshot : Snapshot) (lo hi : Cut) (left : ItemId → ℕ → Bool) (made_with : Cut → ℕ → ℕ → ℕ)
     (m n : Shown)
     → WellFormed w → Legal w (Learn r snapshot lo hi left) → RepresentsReplica w r m
-    → BacksRange w snapshot lo hi made_with → LearnResult lo hi left made_with m n
+    → BacksRange w snapshot lo hi made_with → LearnResult w.units lo hi left made_with m n
     → RepresentsReplica (after w (Learn r snapshot lo hi left)) r n
 learn_replica w r snapshot lo hi left made_with m n ok legal stands backs result =
     at_site_holds w r (λ t. learned w t snapshot lo hi left) (λ t. LearnLegal w t snapshot lo hi left)

@@ -248,10 +248,10 @@ run_represents = record {
       represents = record {
         exact = λ i u v made. (λ contained. run_knows i u v made, λ known. run_contains i u v made);
         items = run_items;
-        header = record { id = refl; clock = refl; forgotten = λ place r. none_forgotten (cut_le Start place) r };
+        header = record { id = refl; clock = refl; forgotten = λ place r there. none_forgotten (cut_le Start place) r };
         bounded = record {
-          vectors = run_bounded;
-          forgotten = λ place r. rw (none_forgotten (cut_le Start place) r) zero-le;
+          vectors = λ place u r there small. run_bounded place u r;
+          forgotten = λ place r there. rw (none_forgotten (cut_le Start place) r) zero-le;
         };
       };
       rising = (λ y has. absurd has, tt);

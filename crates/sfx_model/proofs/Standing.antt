@@ -5,6 +5,7 @@ use Rattle.sfx_ids.specs.declared.cut.Cut.{Cut}
 use Rattle.sfx_ids.specs.declared.cut.Cut.TheVariants.{At}
 use Rattle.sfx_ids.specs.declared.item_id.ItemId.{ItemId}
 use Rattle.sfx_ids.specs.declared.version.Version.{Version}
+use Rattle.sfx_segments.specs.Segments.{IsPlace}
 use Rattle.sfx_model.specs.Sets.{Has}
 use Rattle.sfx_model.specs.World.{Record, World, Site, Holding, WellFormed, holding, Made, IsContained}
 use Rattle.sfx_model.specs.Events.{site_of, put_site}
@@ -67,10 +68,10 @@ other_stands w old new rs s m at_old ok step has rep = record {
   items = λ i. item_on w.units w.records rs i (holding s i) (state_of m.items i) step.grows (rep.items i);
   header = rep.header;
   bounded = record {
-    vectors = λ at u r. let up = clock_grows w.sites new old r at_old step.follows.clock in let low =
-        rep.bounded.vectors at u r in omega arith;
-    forgotten = λ at r. let up = clock_grows w.sites new old r at_old step.follows.clock in let low =
-        rep.bounded.forgotten at r in omega arith;
+    vectors = λ at u r there small. let up = clock_grows w.sites new old r at_old step.follows.clock in let low =
+        rep.bounded.vectors at u r there small in omega arith;
+    forgotten = λ at r there. let up = clock_grows w.sites new old r at_old step.follows.clock in let low =
+        rep.bounded.forgotten at r there in omega arith;
   };
 }
   where
@@ -80,12 +81,13 @@ other_stands w old new rs s m at_old ok step has rep = record {
         → IsContained (m.vector_at (At i) u) v ↔ Has v (s.known i u)
     exact_of i u v made (inr there) = rep.exact i u v (made.0, there, made.2)
     exact_of i u v made (inl by) =
+        let small : u < w.units = subst (λ (x : ℕ). x < w.units) made.2.unit by.unit in
         let replica : new.id ≡ v.replica = by.maker ∙ ap (λ (x : Version). x.replica) made.2.version in
         let tick : made.0.version.tick ≡ v.tick = ap (λ (x : Version). x.tick) made.2.version in
         let newer : old.clock < v.tick = omega (arith, by.newer) in
         let clock : clock_of w.sites v.replica ≡ old.clock =
         subst (λ (x : ℕ). clock_of w.sites x ≡ old.clock) replica (clock_found w.sites new.id old at_old) in (
-          (λ contained. let low = rep.bounded.vectors (At i) u v.replica in absurd (omega arith)),
+          (λ contained. let low = rep.bounded.vectors (At i) u v.replica tt small in absurd (omega arith)),
           (λ has_v. let low : v.tick ≤ old.clock =
               known_bounded w s old i u v ok has ((found w.sites new.id old at_old).0)
               ((found w.sites new.id old at_old).1 ∙ replica) has_v in absurd (omega arith)),
@@ -117,8 +119,8 @@ moved_stands w old new rs m at_old ok step moves = record {
   header = record { id = moves.id; clock = moves.clock; forgotten = moves.forgotten };
   bounded = record {
     vectors = bounded_at;
-    forgotten = λ place r. let up =
-        clock_grows w.sites new old r at_old step.follows.clock in let low = moves.forgotten_bounded place r in
+    forgotten = λ place r there. let up =
+        clock_grows w.sites new old r at_old step.follows.clock in let low = moves.forgotten_bounded place r there in
         omega arith;
   };
 }
@@ -133,10 +135,10 @@ moved_stands w old new rs m at_old ok step moves = record {
 
     contained_of :
         (i : ItemId) (u : ℕ) (v : Version)
-        → v.replica ≡ new.id → v.tick ≤ new.clock → IsContained (m.vector_at (At i) u) v
-    contained_of i u v own low =
+        → u < w.units → v.replica ≡ new.id → v.tick ≤ new.clock → IsContained (m.vector_at (At i) u) v
+    contained_of i u v small own low =
         let e : m.vector_at (At i) u v.replica ≡ new.clock =
-        subst (λ (r : ℕ). m.vector_at (At i) u r ≡ new.clock) (sym own) (moves.own (At i) u) in
+        subst (λ (r : ℕ). m.vector_at (At i) u r ≡ new.clock) (sym own) (moves.own (At i) u tt small) in
         omega arith
 
     own_exact :
@@ -144,18 +146,20 @@ moved_stands w old new rs m at_old ok step moves = record {
         → v.replica ≡ new.id → (IsMadeBy w old new rs made.0 ⊎ Has made.0 w.records)
         → IsContained (m.vector_at (At i) u) v ↔ Has v (new.known i u)
     own_exact i u v made own (inl by) =
+        let small : u < w.units = subst (λ (x : ℕ). x < w.units) made.2.unit by.unit in
         let ticks : made.0.version.tick ≡ v.tick = ap (λ (x : Version). x.tick) made.2.version in (
           (λ _. moved_has i u v made by.known),
-          (λ _. contained_of i u v own (omega (arith, by.most))),
+          (λ _. contained_of i u v small own (omega (arith, by.most))),
         )
     own_exact i u v made own (inr there) =
+        let small : u < w.units = subst (λ (x : ℕ). x < w.units) made.2.unit (ok.records made.0 there).unit in
         let replicas : made.0.version.replica ≡ v.replica = ap (λ (x : Version). x.replica) made.2.version in
         let is : old.id ≡ made.0.version.replica = (found w.sites new.id old at_old).1 ∙ sym own ∙ sym replicas in
         let has_old = (found w.sites new.id old at_old).0 in
         let known : Has made.0.version (old.known made.0.item made.0.unit) = ok.own made.0 old there has_old is in
         let low : v.tick ≤ old.clock = made_bounded w old i u v ok has_old (is ∙ replicas) (made.0, there, made.2) in (
           (λ _. moved_has i u v made (step.more made.0.item made.0.unit made.0.version known)),
-          (λ _. contained_of i u v own (omega (arith, step.follows.clock))),
+          (λ _. contained_of i u v small own (omega (arith, step.follows.clock))),
         )
 
     other_exact :
@@ -166,17 +170,19 @@ moved_stands w old new rs m at_old ok step moves = record {
         absurd (other (sym (by.maker ∙ ap (λ (x : Version). x.replica) made.2.version)))
     other_exact i u v made other (inr there) = moves.others i u v (made.0, there, made.2) other
 
-    bounded_at : (place : Cut) (u r : ℕ) → m.vector_at place u r ≤ clock_of (put_site new w.sites) r
-    bounded_at place u r = elim (cases_eq r new.id) [
+    bounded_at :
+        (place : Cut) (u r : ℕ)
+        → IsPlace place → u < w.units → m.vector_at place u r ≤ clock_of (put_site new w.sites) r
+    bounded_at place u r there small = elim (cases_eq r new.id) [
       | inl own ↦
           let e : m.vector_at place u r ≡ new.clock =
-          subst (λ (x : ℕ). m.vector_at place u x ≡ new.clock) (sym own) (moves.own place u) in
+          subst (λ (x : ℕ). m.vector_at place u x ≡ new.clock) (sym own) (moves.own place u there small) in
           let c : clock_of (put_site new w.sites) r ≡ new.clock =
           subst (λ (x : ℕ). clock_of (put_site new w.sites) x ≡ new.clock) (sym own)
           (clock_there w.sites new old at_old) in
           omega arith
       | inr other ↦
           let up = clock_grows w.sites new old r at_old step.follows.clock in
-          let low = moves.bounded place u r other in
+          let low = moves.bounded place u r there small other in
           omega arith
     ]

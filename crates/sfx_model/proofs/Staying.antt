@@ -1,5 +1,5 @@
 -- Snapshots, and what comes with them, stay sound and exact through the events of a world.
-use Rattle.std.proofs.Common.{◌≡◌, ℕ, ◌≤◌, ◌⊎◌, ◌↔◌, List, Option, Some, inl, inr, refl, sym, ◌∙◌, ap, subst, arith, le_refl}
+use Rattle.std.proofs.Common.{◌≡◌, ℕ, ◌<◌, ◌≤◌, ◌⊎◌, ◌↔◌, List, Option, Some, inl, inr, refl, sym, ◌∙◌, ap, subst, arith, le_refl}
 use Rattle.sfx_ids.specs.declared.cut.Cut.{Cut}
 use Rattle.sfx_ids.specs.declared.cut.Cut.TheVariants.{At}
 use Rattle.sfx_ids.specs.declared.item_id.ItemId.{ItemId}
@@ -32,8 +32,8 @@ carried_step w old new rs snapshot i made_with seen at ok step carried = record 
       (λ u. same_self (snapshot.known j u)) refl (λ r. le_refl (snapshot.forgotten (At j) r)) (carried.sound j);
   backs = record {
     exact = λ u v made. exact_of u v made (step.news made.0 made.1);
-    bounded = λ u r. let up = clock_grows w.sites new old r there step.follows.clock in let low =
-        carried.backs.bounded u r in omega arith;
+    bounded = λ u r small. let up = clock_grows w.sites new old r there step.follows.clock in let low =
+        carried.backs.bounded u r small in omega arith;
   };
   state = item_on w.units w.records rs i (holding snapshot i) seen step.grows carried.state;
 }
@@ -47,12 +47,13 @@ carried_step w old new rs snapshot i made_with seen at ok step carried = record 
         → IsContained (made_with (At i) u) v ↔ Has v (snapshot.known i u)
     exact_of u v made (inr before) = carried.backs.exact u v (made.0, before, made.2)
     exact_of u v made (inl by) =
+        let small : u < w.units = subst (λ (x : ℕ). x < w.units) made.2.unit by.unit in
         let replica : new.id ≡ v.replica = by.maker ∙ ap (λ (x : Version). x.replica) made.2.version in
         let tick : made.0.version.tick ≡ v.tick = ap (λ (x : Version). x.tick) made.2.version in
         let clock : clock_of w.sites v.replica ≡ old.clock =
         subst (λ (x : ℕ). clock_of w.sites x ≡ old.clock) replica (clock_found w.sites new.id old there) in
         let newer = by.newer in (
-          (λ contained. let low = carried.backs.bounded u v.replica in absurd (omega arith)),
+          (λ contained. let low = carried.backs.bounded u v.replica small in absurd (omega arith)),
           (λ has. let low : v.tick ≤ clock_of w.sites v.replica =
               made_clock w i u v ok (((carried.sound i).cells u).made v has) in absurd (omega arith)),
         )
@@ -68,8 +69,8 @@ carried_stays w (Join name id) snapshot i made_with seen ok legal keeps carried 
   sound = carried.sound;
   backs = record {
     exact = carried.backs.exact;
-    bounded = λ u r. let up = clock_still w.sites (new_site name id) r in let low = carried.backs.bounded u r in
-        omega arith;
+    bounded = λ u r small. let up = clock_still w.sites (new_site name id) r in let low =
+        carried.backs.bounded u r small in omega arith;
   };
   state = carried.state;
 }

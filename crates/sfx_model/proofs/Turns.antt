@@ -63,13 +63,13 @@ site_named w (t ∷ ts) (m ∷ ms) s all has =
     ]
 
 -- What a new state shows.
-new_shown : (id : ℕ) (m : Member) → IsNewState id m → IsNewMember id (shown m)
-new_shown id m new = record {
+new_shown : (units id : ℕ) (m : Member) → IsNewState units id m → IsNewMember units id (shown m)
+new_shown units id m new = record {
   id_is = new.id_is;
   clock = new.clock;
-  vectors = λ place u r. elim (cases_eq r m.id) [
+  vectors = λ place u r there small. elim (cases_eq r m.id) [
     | inl own ↦ rw (eq-eqb r m.id own) new.clock
-    | inr other ↦ rw (ne_eqb r m.id other) (new.knowledge place u r (λ e. other (e ∙ sym new.id_is)))
+    | inr other ↦ rw (ne_eqb r m.id other) (new.knowledge place u r there small (λ e. other (e ∙ sym new.id_is)))
   ];
   forgotten = new.forgotten;
   items = new.items;
@@ -78,7 +78,7 @@ new_shown id m new = record {
 -- A replica is added.
 pub join_state :
     (w : World) (c : Community) (name : List ℕ) (id : ℕ) (m : Member)
-    → WellFormed w → RepresentsWorld w c → 1 ≤ c.units → IsUntaken name id c.members → IsNewState id m
+    → WellFormed w → RepresentsWorld w c → 1 ≤ c.units → IsUntaken name id c.members → IsNewState c.units id m
     → Continues w (Join name id)
     (with_added name m c)
 join_state w c name id m ok rep said untaken new =
@@ -106,7 +106,8 @@ join_state w c name id m ok rep said untaken new =
             }) rep.members)
             (record {
               name = refl;
-              represents = join_new w name id (shown m) ok (new_shown id m new);
+              represents = join_new w name id (shown m) ok
+                  (new_shown w.units id m (subst (λ (x : ℕ). IsNewState x id m) rep.units new));
               rising =
                   subst (λ (xs : List MemberItem). AreRising xs) (sym new.items) tt;
             });
@@ -136,34 +137,37 @@ member_stands w c d m n ok rep changes =
 pub create_turn :
     (w : World) (c d : Community) (m n : Member) (values : List (List ℕ))
     → WellFormed w → RepresentsWorld w c → ChangesMember m n c d → m.clock < max_tick → length values ≡ c.units
-    → Rises m n (with_item (next_created m values) m.items)
+    → Rises c.units m n (with_item (next_created m values) m.items)
     → Continues w (Make m.id (next_item m) (next_version m) (created_contents values)) d
 create_turn w c d m n values ok rep changes room whole rises =
     let (stands, rising) = member_stands w c d m n ok rep changes in
     acts_state w (Make m.id (next_item m) (next_version m) (created_contents values)) c d m n ok rep changes refl
-    (created_acts w m n values ok stands rising room (whole ∙ rep.units) rises)
+    (created_acts w m n values ok stands rising room (whole ∙ rep.units)
+    (subst (λ (x : ℕ). Rises x m n (with_item (next_created m values) m.items)) rep.units rises))
 
 pub edit_turn :
     (w : World) (c d : Community) (m n : Member) (i : ItemId) (unit : ℕ) (value : List ℕ) (cells : List Cell)
     → WellFormed w → RepresentsWorld w c → ChangesMember m n c d → m.clock < max_tick → unit < c.units
-    → state_of m.items i ≡ Some (Live cells) → Rises m n (with_state i (Live (cells_with m cells unit value)) m.items)
+    → state_of m.items i ≡ Some (Live cells) → Rises c.units m n (with_state i (Live (cells_with m cells unit value)) m.items)
     → Continues w (Make m.id i (next_version m) (edited_contents unit value)) d
 edit_turn w c d m n i unit value cells ok rep changes room small live rises =
     let (stands, rising) = member_stands w c d m n ok rep changes in
     acts_state w (Make m.id i (next_version m) (edited_contents unit value)) c d m n ok rep changes refl
     (edited_acts w m n i unit value cells ok stands rising room
-    (subst (λ (x : ℕ). unit < x) rep.units small) live rises)
+    (subst (λ (x : ℕ). unit < x) rep.units small) live
+    (subst (λ (x : ℕ). Rises x m n (with_state i (Live (cells_with m cells unit value)) m.items)) rep.units rises))
 
 pub delete_turn :
     (w : World) (c d : Community) (m n : Member) (i : ItemId) (cells : List Cell)
     → WellFormed w → RepresentsWorld w c → ChangesMember m n c d → m.clock < max_tick
-    → state_of m.items i ≡ Some (Live cells) → Rises m n (with_state i (Dead (next_version m)) m.items)
+    → state_of m.items i ≡ Some (Live cells) → Rises c.units m n (with_state i (Dead (next_version m)) m.items)
     → Continues w (Make m.id i (next_version m) (deleted_contents c.units)) d
 delete_turn w c d m n i cells ok rep changes room live rises =
     let (stands, rising) = member_stands w c d m n ok rep changes in
     acts_state w (Make m.id i (next_version m) (deleted_contents c.units)) c d m n ok rep changes refl
     (subst (λ (x : ℕ). ActsIn w (Make m.id i (next_version m) (deleted_contents x)) m.id n) (sym rep.units)
-    (deleted_acts w m n i cells ok stands rising room live rises))
+    (deleted_acts w m n i cells ok stands rising room live
+    (subst (λ (x : ℕ). Rises x m n (with_state i (Dead (next_version m)) m.items)) rep.units rises)))
 
 -- The empty state represents the empty world.
 pub empty_state : RepresentsWorld empty_world (record { units = 0; members = [] })

@@ -4,6 +4,7 @@ use Rattle.sfx_ids.specs.declared.cut.Cut.TheVariants.{At}
 use Rattle.sfx_ids.specs.declared.item_id.ItemId.{ItemId}
 use Rattle.sfx_ids.specs.declared.version.Version.{Version}
 use Rattle.sfx_ids.specs.ItemId.{creation_of}
+use Rattle.sfx_segments.specs.Segments.{IsPlace}
 use Rattle.sfx_model.specs.Sets.{Has, IsPart}
 use Rattle.sfx_model.specs.World.{Record, Site, World, holding, IsAt, Made, IsContained, IsSoundItem, IsHistory}
 use Rattle.sfx_model.specs.Members.{Shown, clock_of, state_of, ItemRepresents}
@@ -47,9 +48,9 @@ pub record Step (w : World) (old new : Site) (rs : List Record) : Type 0 where
 pub record Moves (w : World) (old new : Site) (rs : List Record) (m : Shown) : Type 0 where
   pub id : m.id ≡ new.id
   pub clock : m.clock ≡ new.clock
-  pub own : (place : Cut) (u : ℕ) → m.vector_at place u new.id ≡ new.clock
+  pub own : (place : Cut) (u : ℕ) → IsPlace place → u < w.units → m.vector_at place u new.id ≡ new.clock
   pub others : (i : ItemId) (u : ℕ) (v : Version) → Made w.records i u v → v.replica ≢ new.id → IsContained (m.vector_at (At i) u) v ↔ Has v (new.known i u)
   pub items : (i : ItemId) → ItemRepresents w.units rs i (holding new i) (state_of m.items i)
-  pub forgotten : (place : Cut) (r : ℕ) → m.forgotten place r ≡ new.forgotten place r
-  pub bounded : (place : Cut) (u r : ℕ) → r ≢ new.id → m.vector_at place u r ≤ clock_of w.sites r
-  pub forgotten_bounded : (place : Cut) (r : ℕ) → m.forgotten place r ≤ clock_of w.sites r
+  pub forgotten : (place : Cut) (r : ℕ) → IsPlace place → m.forgotten place r ≡ new.forgotten place r
+  pub bounded : (place : Cut) (u r : ℕ) → IsPlace place → u < w.units → r ≢ new.id → m.vector_at place u r ≤ clock_of w.sites r
+  pub forgotten_bounded : (place : Cut) (r : ℕ) → IsPlace place → m.forgotten place r ≤ clock_of w.sites r

@@ -17,7 +17,7 @@ use Rattle.sfx_model.specs.Sets.{Has}
 use Rattle.sfx_model.specs.Events.{is_in}
 use Rattle.sfx_model.specs.Consistent.{IsItemState}
 use Rattle.sfx_model.specs.Headline.{version_at}
-use Rattle.sfx_model.specs.Members.{ItemState, MemberItem, Member, IsIdBelow, AreRising, state_of}
+use Rattle.sfx_model.specs.Members.{ItemState, MemberItem, Member, AreIdsRising, AreRising, state_of}
 use Rattle.sfx_model.specs.Readings.{unseen}
 use Rattle.sfx_model.specs.Class.{is_within}
 use Rattle.sfx_model.specs.Knowing.{laid_known, forgets_starts}
@@ -89,11 +89,6 @@ abbrev pub mode_of : ℕ → Forgets → Known → Mode
 mode_of units forgotten known =
     if is_forgotten_everywhere units forgotten known (forgets_starts forgotten) && is_forgotten_everywhere units forgotten known (starts_of known)
     then Normal else Recover
-
--- The ids ascend, and no two are the same.
-abbrev pub AreIdsRising : List ItemId → Type 0
-AreIdsRising [] = Unit {0}
-AreIdsRising (i ∷ is) = ((j : ItemId) → Has j is → IsIdBelow i j) × AreIdsRising is
 
 -- The item in this state is one that a batch may send: it is whole, in the range, and the made-with
 -- knowledge contains its creation and its version at each unit.

@@ -4,6 +4,7 @@ use Rattle.sfx_ids.specs.declared.cut.Cut.{Cut}
 use Rattle.sfx_ids.specs.declared.cut.Cut.TheVariants.{At}
 use Rattle.sfx_ids.specs.declared.item_id.ItemId.{ItemId}
 use Rattle.sfx_ids.specs.declared.version.Version.{Version}
+use Rattle.sfx_segments.specs.Segments.{IsPlace}
 use Rattle.sfx_item.specs.declared.cell.Cell.{Cell}
 use Rattle.sfx_model.specs.Sets.{Has}
 use Rattle.sfx_model.specs.World.{Record, World, IsAt, Made, IsDeletion, Precedes, IsContained}
@@ -39,7 +40,8 @@ KnowledgeIsExact w m =
 
 -- The two members know the same at every place and unit.
 abbrev pub HaveEqualKnowledge : ℕ → Shown → Shown → Type 0
-HaveEqualKnowledge units m n = (place : Cut) (u r : ℕ) → u < units → m.vector_at place u r ≡ n.vector_at place u r
+HaveEqualKnowledge units m n =
+    (place : Cut) (u r : ℕ) → IsPlace place → u < units → m.vector_at place u r ≡ n.vector_at place u r
 
 -- The item alone, where its state is live.
 abbrev pub live_item : ItemId → ItemState → List MemberItem → List MemberItem

@@ -4,6 +4,7 @@ use Rattle.sfx_ids.specs.declared.cut.Cut.TheVariants.{At}
 use Rattle.sfx_ids.specs.declared.item_id.ItemId.{ItemId}
 use Rattle.sfx_ids.specs.declared.version.Version.{Version}
 use Rattle.sfx_vector.specs.Clocks.{tick_of}
+use Rattle.sfx_segments.specs.Segments.{IsPlace}
 use Rattle.sfx_knowledge.specs.Knowledge.{Known, tick_at}
 use Rattle.sfx_knowledge.specs.Forgotten.{Forgets, fvec}
 use Rattle.sfx_item.specs.declared.cell.Cell.{Cell}
@@ -95,16 +96,17 @@ abbrev pub ItemRepresents : ℕ → List Record → ItemId → Holding → Optio
 ItemRepresents units rs i h None = h.present ≡ false
 ItemRepresents units rs i h (Some state) = IsHeld units rs i h state
 
--- Id, clock and forgotten deletions are the site's.
+-- Id and clock are the site's, and so are the forgotten deletions at every place.
 pub record SameHeader (s : Site) (m : Shown) : Type 0 where
   pub id : m.id ≡ s.id
   pub clock : m.clock ≡ s.clock
-  pub forgotten : (place : Cut) (r : ℕ) → m.forgotten place r ≡ s.forgotten place r
+  pub forgotten : (place : Cut) (r : ℕ) → IsPlace place → m.forgotten place r ≡ s.forgotten place r
 
--- No entry of a vector passes the clock of its replica, and none names a replica that the world lacks.
-pub record IsBounded (sites : List Site) (m : Shown) : Type 0 where
-  pub vectors : (place : Cut) (u r : ℕ) → m.vector_at place u r ≤ clock_of sites r
-  pub forgotten : (place : Cut) (r : ℕ) → m.forgotten place r ≤ clock_of sites r
+-- At every place and unit no entry of a vector passes the clock of its replica, and none names a replica
+-- that the world lacks.
+pub record IsBounded (w : World) (m : Shown) : Type 0 where
+  pub vectors : (place : Cut) (u r : ℕ) → IsPlace place → u < w.units → m.vector_at place u r ≤ clock_of w.sites r
+  pub forgotten : (place : Cut) (r : ℕ) → IsPlace place → m.forgotten place r ≤ clock_of w.sites r
 
 -- A member's state represents its site in the world.
 pub record Represents (w : World) (s : Site) (m : Shown) : Type 0 where
@@ -115,7 +117,7 @@ pub record Represents (w : World) (s : Site) (m : Shown) : Type 0 where
   -- so are its id, clock and forgotten deletions
   pub header : SameHeader s m
   -- its vectors stay within the clocks of the world
-  pub bounded : IsBounded w.sites m
+  pub bounded : IsBounded w m
 
 -- The first id comes before the second: ids are in order by tick, then by replica.
 abbrev pub IsIdBelow : ItemId → ItemId → Type 0
@@ -125,6 +127,11 @@ IsIdBelow i j = (i.tick < j.tick) ⊎ ((i.tick ≡ j.tick) × (i.replica < j.rep
 abbrev pub AreRising : List MemberItem → Type 0
 AreRising [] = Unit {0}
 AreRising (x ∷ xs) = ((y : MemberItem) → Has y xs → IsIdBelow x.id y.id) × AreRising xs
+
+-- The ids ascend, and no two are the same.
+abbrev pub AreIdsRising : List ItemId → Type 0
+AreIdsRising [] = Unit {0}
+AreIdsRising (i ∷ is) = ((j : ItemId) → Has j is → IsIdBelow i j) × AreIdsRising is
 
 -- A member under the name of its replica.
 pub record NamedMember : Type 0 where

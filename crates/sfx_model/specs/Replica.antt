@@ -1,5 +1,6 @@
-use Rattle.std.specs.Prelude.{◌≡◌, ◌≢◌, ℕ, [], Some}
+use Rattle.std.specs.Prelude.{◌≡◌, ◌≢◌, ℕ, ◌<◌, [], Some}
 use Rattle.sfx_ids.specs.declared.cut.Cut.{Cut}
+use Rattle.sfx_segments.specs.Segments.{IsPlace}
 use Rattle.sfx_model.specs.World.{Site, World, WellFormed}
 use Rattle.sfx_model.specs.Events.{Event, Units, Widen, Join, Make, Clean, Forget, Apply, Learn, site_of, after, Legal}
 use Rattle.sfx_model.specs.Members.{Shown, Member, Represents, AreRising, shown}
@@ -20,13 +21,13 @@ IsOfOthers (Forget forgetter snapshot lo hi) r = forgetter ≢ r
 IsOfOthers (Apply receiver snapshot i v marks) r = receiver ≢ r
 IsOfOthers (Learn learner snapshot lo hi left) r = learner ≢ r
 
--- The state of a replica that just joined under this id: its clock is 0, and it knows, holds and
--- has forgotten nothing.
-pub record IsNewMember (id : ℕ) (m : Shown) : Type 0 where
+-- The state of a replica that just joined under this id, where items have this many units: its clock is 0,
+-- and it knows, holds and has forgotten nothing.
+pub record IsNewMember (units id : ℕ) (m : Shown) : Type 0 where
   pub id_is : m.id ≡ id
   pub clock : m.clock ≡ 0
-  pub vectors : (place : Cut) (u r : ℕ) → m.vector_at place u r ≡ 0
-  pub forgotten : (place : Cut) (r : ℕ) → m.forgotten place r ≡ 0
+  pub vectors : (place : Cut) (u r : ℕ) → IsPlace place → u < units → m.vector_at place u r ≡ 0
+  pub forgotten : (place : Cut) (r : ℕ) → IsPlace place → m.forgotten place r ≡ 0
   pub items : m.items ≡ []
 
 -- The event may happen in the world, the world after it is well-formed, and there the replica with this

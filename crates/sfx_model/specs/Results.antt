@@ -1,9 +1,10 @@
-use Rattle.std.specs.Prelude.{◌≡◌, ℕ, ◌≤◌, max, Bool, true, false, not, ◌&&◌, if◌then◌else◌, nat_eq, ◌⊎◌, ◌↔◌, List, length, Option, Some, None, slice_get}
+use Rattle.std.specs.Prelude.{◌≡◌, ℕ, ◌<◌, ◌≤◌, max, Bool, true, false, not, ◌&&◌, if◌then◌else◌, nat_eq, ◌⊎◌, ◌↔◌, List, length, Option, Some, None, slice_get}
 use Rattle.sfx_ids.specs.declared.cut.Cut.{Cut}
 use Rattle.sfx_ids.specs.declared.cut.Cut.TheVariants.{Start, At, After, End}
 use Rattle.sfx_ids.specs.declared.item_id.ItemId.{ItemId}
 use Rattle.sfx_ids.specs.declared.version.Version.{Version}
 use Rattle.sfx_ids.specs.Cut.{is_between}
+use Rattle.sfx_segments.specs.Segments.{IsPlace}
 use Rattle.sfx_item.specs.declared.cell.Cell.{Cell}
 use Rattle.sfx_model.specs.Sets.{Has}
 use Rattle.sfx_model.specs.World.{Content, Written, Deleted, Snapshot, World, Made, IsContained}
@@ -11,23 +12,23 @@ use Rattle.sfx_model.specs.Events.{UnitMark, Stays, Taken, Stamped, Left, Gone, 
 use Rattle.sfx_model.specs.Members.{ItemState, Live, Dead, Shown, clock_of, state_of}
 
 -- The made-with knowledge that comes with a snapshot's state of an item: at the item it contains exactly
--- the made versions that the snapshot knows, and it stays within the clocks of the world. A source, a
--- letter and a saved conflict are such.
+-- the made versions that the snapshot knows, and at each unit it stays within the clocks of the world. A
+-- source, a letter and a saved conflict are such.
 pub record Backs (w : World) (snapshot : Snapshot) (i : ItemId) (made_with : Cut → ℕ → ℕ → ℕ) : Type 0 where
   pub exact : (u : ℕ) (v : Version) → Made w.records i u v → IsContained (made_with (At i) u) v ↔ Has v (snapshot.known i u)
-  pub bounded : (u r : ℕ) → made_with (At i) u r ≤ clock_of w.sites r
+  pub bounded : (u r : ℕ) → u < w.units → made_with (At i) u r ≤ clock_of w.sites r
 
 -- The same of a range: made-with knowledge that backs each item of the range, and stays within the clocks
--- of the world at each of its places.
+-- of the world at each of its places and at each unit.
 pub record BacksRange (w : World) (snapshot : Snapshot) (lo hi : Cut) (made_with : Cut → ℕ → ℕ → ℕ) : Type 0 where
   pub items : (i : ItemId) → is_in lo hi i ≡ true → Backs w snapshot i made_with
-  pub bounded : (place : Cut) (u r : ℕ) → is_between lo hi place ≡ true → made_with place u r ≤ clock_of w.sites r
+  pub bounded : (place : Cut) (u r : ℕ) → IsPlace place → u < w.units → is_between lo hi place ≡ true → made_with place u r ≤ clock_of w.sites r
 
 -- The forgotten deletions that come with a snapshot: at each place of the range they are the snapshot's,
 -- and stay within the clocks of the world.
 pub record BacksForgotten (w : World) (snapshot : Snapshot) (lo hi : Cut) (seen : Cut → ℕ → ℕ) : Type 0 where
-  pub same : (place : Cut) (r : ℕ) → is_between lo hi place ≡ true → seen place r ≡ snapshot.forgotten place r
-  pub bounded : (place : Cut) (r : ℕ) → is_between lo hi place ≡ true → seen place r ≤ clock_of w.sites r
+  pub same : (place : Cut) (r : ℕ) → IsPlace place → is_between lo hi place ≡ true → seen place r ≡ snapshot.forgotten place r
+  pub bounded : (place : Cut) (r : ℕ) → IsPlace place → is_between lo hi place ≡ true → seen place r ≤ clock_of w.sites r
 
 -- Whether the place is that of the item.
 abbrev pub is_place_of : ItemId → Cut → Bool
@@ -68,12 +69,13 @@ joined_in lo hi left here made_with place u r =
     else here place u r
 
 -- Both pieces of knowledge agree at every place and unit.
-abbrev pub SameVectors : (Cut → ℕ → ℕ → ℕ) → (Cut → ℕ → ℕ → ℕ) → Type 0
-SameVectors here there = (place : Cut) (u r : ℕ) → here place u r ≡ there place u r
+abbrev pub SameVectors : ℕ → (Cut → ℕ → ℕ → ℕ) → (Cut → ℕ → ℕ → ℕ) → Type 0
+SameVectors units here there =
+    (place : Cut) (u r : ℕ) → IsPlace place → u < units → here place u r ≡ there place u r
 
 -- Both have forgotten the same at every place.
 abbrev pub SameForgotten : (Cut → ℕ → ℕ) → (Cut → ℕ → ℕ) → Type 0
-SameForgotten here there = (place : Cut) (r : ℕ) → here place r ≡ there place r
+SameForgotten here there = (place : Cut) (r : ℕ) → IsPlace place → here place r ≡ there place r
 
 -- Each item but this one is as before.
 abbrev pub KeepsOthers : ItemId → Shown → Shown → Type 0
@@ -121,7 +123,7 @@ pub data StateResult (units : ℕ) (v : Version) (marks : ℕ → UnitMark) (bef
 pub record EntryResult (units : ℕ) (i : ItemId) (v : Version) (marks : ℕ → UnitMark) (seen : Option ItemState) (made_with : Cut → ℕ → ℕ → ℕ) (m n : Shown) : Type 0 where
   pub id : n.id ≡ m.id
   pub clock : n.clock ≡ clock_after marks units v.tick m.clock
-  pub vectors : SameVectors n.vector_at (with_own n.id n.clock (joined_at i marks m.vector_at made_with))
+  pub vectors : SameVectors units n.vector_at (with_own n.id n.clock (joined_at i marks m.vector_at made_with))
   pub forgotten : SameForgotten n.forgotten m.forgotten
   pub others : KeepsOthers i m n
   pub item : StateResult units v marks (state_of m.items i) seen (state_of n.items i)
@@ -135,32 +137,32 @@ mark_of (Some c) = Stamped c
 pub record EditResult (units : ℕ) (i : ItemId) (v : Version) (contents : ℕ → Option Content) (m n : Shown) : Type 0 where
   pub id : n.id ≡ m.id
   pub clock : n.clock ≡ v.tick
-  pub vectors : SameVectors n.vector_at (with_own n.id n.clock m.vector_at)
+  pub vectors : SameVectors units n.vector_at (with_own n.id n.clock m.vector_at)
   pub forgotten : SameForgotten n.forgotten m.forgotten
   pub others : KeepsOthers i m n
   pub item : StateResult units v (λ u. mark_of (contents u)) (state_of m.items i) None (state_of n.items i)
 
 -- What a cleanup owes of the member.
-pub record CleanResult (i : ItemId) (v : Version) (lo hi : Cut) (m n : Shown) : Type 0 where
+pub record CleanResult (units : ℕ) (i : ItemId) (v : Version) (lo hi : Cut) (m n : Shown) : Type 0 where
   pub id : n.id ≡ m.id
   pub clock : n.clock ≡ m.clock
-  pub vectors : SameVectors n.vector_at m.vector_at
+  pub vectors : SameVectors units n.vector_at m.vector_at
   pub forgotten : SameForgotten n.forgotten (forgotten_with m.forgotten v lo hi)
   pub others : KeepsOthers i m n
   pub item : state_of n.items i ≡ None
 
 -- What joining forgotten deletions owes of the member.
-pub record ForgetResult (seen : Cut → ℕ → ℕ) (lo hi : Cut) (m n : Shown) : Type 0 where
+pub record ForgetResult (units : ℕ) (seen : Cut → ℕ → ℕ) (lo hi : Cut) (m n : Shown) : Type 0 where
   pub id : n.id ≡ m.id
   pub clock : n.clock ≡ m.clock
-  pub vectors : SameVectors n.vector_at m.vector_at
+  pub vectors : SameVectors units n.vector_at m.vector_at
   pub forgotten : SameForgotten n.forgotten (forgotten_joined m.forgotten seen lo hi)
   pub items : KeepsItems m n
 
 -- What a learned range owes of the member.
-pub record LearnResult (lo hi : Cut) (left : ItemId → ℕ → Bool) (made_with : Cut → ℕ → ℕ → ℕ) (m n : Shown) : Type 0 where
+pub record LearnResult (units : ℕ) (lo hi : Cut) (left : ItemId → ℕ → Bool) (made_with : Cut → ℕ → ℕ → ℕ) (m n : Shown) : Type 0 where
   pub id : n.id ≡ m.id
   pub clock : n.clock ≡ m.clock
-  pub vectors : SameVectors n.vector_at (with_own n.id n.clock (joined_in lo hi left m.vector_at made_with))
+  pub vectors : SameVectors units n.vector_at (with_own n.id n.clock (joined_in lo hi left m.vector_at made_with))
   pub forgotten : SameForgotten n.forgotten m.forgotten
   pub items : KeepsItems m n

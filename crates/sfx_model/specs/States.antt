@@ -1,4 +1,4 @@
-use Rattle.std.specs.Prelude.{◌≡◌, ◌≢◌, ℕ, ◌+◌, Bool, if◌then◌else◌, nat_eq, nat_lt, ◌&&◌, ◌||◌, List, [], ◌∷◌, ◌++◌, map, Option, Some, None, slice_get, slice_set}
+use Rattle.std.specs.Prelude.{◌≡◌, ◌≢◌, ℕ, ◌<◌, ◌+◌, Bool, if◌then◌else◌, nat_eq, nat_lt, ◌&&◌, ◌||◌, List, [], ◌∷◌, ◌++◌, map, Option, Some, None, slice_get, slice_set}
 use Rattle.std.specs.Option.{option_map}
 use Rattle.std.specs.Str.{bytes_eq}
 use Rattle.sfx_ids.specs.declared.cut.Cut.{Cut}
@@ -10,6 +10,7 @@ use Rattle.sfx_model.specs.World.{Content, Written, Deleted, World, WellFormed}
 use Rattle.sfx_model.specs.Events.{Event, Units, Widen, Join, Make, Clean, Forget, Apply, Learn, after, Legal, same_item}
 use Rattle.sfx_model.specs.Members.{ItemState, Live, MemberItem, Member, NamedMember, Community, RepresentsWorld}
 use Rattle.sfx_vector.specs.Clocks.{tick_of}
+use Rattle.sfx_segments.specs.Segments.{IsPlace}
 use Rattle.sfx_knowledge.specs.Knowledge.{tick_at}
 use Rattle.sfx_knowledge.specs.Forgotten.{fvec}
 
@@ -76,19 +77,19 @@ next_item m = record { tick = m.clock + 1; replica = m.id }
 abbrev pub cells_at : Version → List (List ℕ) → List Cell
 cells_at v values = map (λ value. record { version = v; value = value }) values
 
--- Both members have the same knowledge, but for the entries of their own replica, over which the
--- clock is laid.
-abbrev pub KnowsOthersAlike : Member → Member → Type 0
-KnowsOthersAlike m n =
-    (place : Cut) (u r : ℕ) → r ≢ m.id →
+-- Both members have the same knowledge at every place and unit, but for the entries of their own replica,
+-- over which the clock is laid.
+abbrev pub KnowsOthersAlike : ℕ → Member → Member → Type 0
+KnowsOthersAlike units m n =
+    (place : Cut) (u r : ℕ) → IsPlace place → u < units → r ≢ m.id →
     tick_at n.knowledge place u r ≡ tick_at m.knowledge place u r
 
 -- The member m becomes n as its replica makes a version: its clock rises by one, what it knows of
 -- others and has forgotten stays, and these are its items.
-pub record Rises (m n : Member) (items : List MemberItem) : Type 0 where
+pub record Rises (units : ℕ) (m n : Member) (items : List MemberItem) : Type 0 where
   pub id : n.id ≡ m.id
   pub clock : n.clock ≡ m.clock + 1
-  pub knowledge : KnowsOthersAlike m n
+  pub knowledge : KnowsOthersAlike units m n
   pub forgotten : n.forgotten ≡ m.forgotten
   pub holds : n.items ≡ items
 
@@ -128,13 +129,13 @@ edited_contents unit value u = if nat_eq u unit then Some (Written value) else N
 abbrev pub deleted_contents : ℕ → ℕ → Option Content
 deleted_contents units u = if nat_lt u units then Some Deleted else None
 
--- A member of a replica that just joined: its clock is 0, and it knows, holds and has forgotten
--- nothing.
-pub record IsNewState (id : ℕ) (m : Member) : Type 0 where
+-- A member of a replica that just joined, where items have this many units: its clock is 0, and it knows,
+-- holds and has forgotten nothing.
+pub record IsNewState (units id : ℕ) (m : Member) : Type 0 where
   pub id_is : m.id ≡ id
   pub clock : m.clock ≡ 0
-  pub knowledge : (place : Cut) (u r : ℕ) → r ≢ id → tick_at m.knowledge place u r ≡ 0
-  pub forgotten : (place : Cut) (r : ℕ) → tick_of (fvec m.forgotten place) r ≡ 0
+  pub knowledge : (place : Cut) (u r : ℕ) → IsPlace place → u < units → r ≢ id → tick_at m.knowledge place u r ≡ 0
+  pub forgotten : (place : Cut) (r : ℕ) → IsPlace place → tick_of (fvec m.forgotten place) r ≡ 0
   pub items : m.items ≡ []
 
 -- No member of the state has this name or this id.

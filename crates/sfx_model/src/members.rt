@@ -47,7 +47,7 @@ pub fn members_stand()
         WellFormed w → Legal w event → IsOfOthers event r →
         RepresentsReplica w r m → RepresentsReplica (after w event) r m }
     ensures joined { (w : World) (name : List ℕ) (id : ℕ) (m : Shown) →
-        WellFormed w → Legal w (Join name id) → IsNewMember id m →
+        WellFormed w → Legal w (Join name id) → IsNewMember w.units id m →
         RepresentsReplica (after w (Join name id)) id m }
     ensures edit { (w : World) (r : ℕ) (i : ItemId) (v : Version) (contents : ℕ → Option Content)
         (m n : Shown) →
@@ -56,12 +56,12 @@ pub fn members_stand()
         RepresentsReplica (after w (Make r i v contents)) r n }
     ensures cleaned { (w : World) (r : ℕ) (i : ItemId) (v : Version) (lo hi : Cut) (m n : Shown) →
         WellFormed w → Legal w (Clean r i v lo hi) → RepresentsReplica w r m →
-        CleanResult i v lo hi m n →
+        CleanResult w.units i v lo hi m n →
         RepresentsReplica (after w (Clean r i v lo hi)) r n }
     ensures forgot { (w : World) (r : ℕ) (s : Snapshot) (forgotten : Cut → ℕ → ℕ) (lo hi : Cut)
         (m n : Shown) →
         WellFormed w → Legal w (Forget r s lo hi) → RepresentsReplica w r m →
-        BacksForgotten w s lo hi forgotten → ForgetResult forgotten lo hi m n →
+        BacksForgotten w s lo hi forgotten → ForgetResult w.units forgotten lo hi m n →
         RepresentsReplica (after w (Forget r s lo hi)) r n }
     ensures entry { (w : World) (r : ℕ) (s : Snapshot) (i : ItemId) (v : Version)
         (marks : ℕ → UnitMark)
@@ -73,7 +73,7 @@ pub fn members_stand()
     ensures range { (w : World) (r : ℕ) (s : Snapshot) (lo hi : Cut) (left : ItemId → ℕ → Bool)
         (made_with : Cut → ℕ → ℕ → ℕ) (m n : Shown) →
         WellFormed w → Legal w (Learn r s lo hi left) → RepresentsReplica w r m →
-        BacksRange w s lo hi made_with → LearnResult lo hi left made_with m n →
+        BacksRange w s lo hi made_with → LearnResult w.units lo hi left made_with m n →
         RepresentsReplica (after w (Learn r s lo hi left)) r n }
 {}
 
@@ -87,20 +87,20 @@ pub fn edits_act()
     ensures created { (w : World) (m n : Member) (values : List (List ℕ)) →
         WellFormed w → RepresentsReplica w m.id (shown m) → AreRising m.items →
         m.clock < max_tick → length values ≡ w.units →
-        Rises m n (with_item (next_created m values) m.items) →
+        Rises w.units m n (with_item (next_created m values) m.items) →
         ActsIn w (Make m.id (next_item m) (next_version m) (created_contents values)) m.id n }
     ensures edited { (w : World) (m n : Member) (i : ItemId) (unit : ℕ) (value : List ℕ)
         (cells : List Cell) →
         WellFormed w → RepresentsReplica w m.id (shown m) → AreRising m.items →
         m.clock < max_tick → unit < w.units →
         state_of m.items i ≡ Some (Live cells) →
-        Rises m n (with_state i (Live (cells_with m cells unit value)) m.items) →
+        Rises w.units m n (with_state i (Live (cells_with m cells unit value)) m.items) →
         ActsIn w (Make m.id i (next_version m) (edited_contents unit value)) m.id n }
     ensures deleted { (w : World) (m n : Member) (i : ItemId) (cells : List Cell) →
         WellFormed w → RepresentsReplica w m.id (shown m) → AreRising m.items →
         m.clock < max_tick →
         state_of m.items i ≡ Some (Live cells) →
-        Rises m n (with_state i (Dead (next_version m)) m.items) →
+        Rises w.units m n (with_state i (Dead (next_version m)) m.items) →
         ActsIn w (Make m.id i (next_version m) (deleted_contents w.units)) m.id n }
 {}
 
@@ -121,25 +121,25 @@ pub fn state_stands()
         Continues w (Units units) (record { units = units; members = [] }) }
     ensures joined { (w : World) (c : Community) (name : List ℕ) (id : ℕ) (m : Member) →
         WellFormed w → RepresentsWorld w c → 1 ≤ c.units → IsUntaken name id c.members →
-        IsNewState id m →
+        IsNewState c.units id m →
         Continues w (Join name id) (with_added name m c) }
     ensures created { (w : World) (c d : Community) (m n : Member) (values : List (List ℕ)) →
         WellFormed w → RepresentsWorld w c → ChangesMember m n c d → m.clock < max_tick →
         length values ≡ c.units →
-        Rises m n (with_item (next_created m values) m.items) →
+        Rises c.units m n (with_item (next_created m values) m.items) →
         Continues w (Make m.id (next_item m) (next_version m) (created_contents values)) d }
     ensures edited { (w : World) (c d : Community) (m n : Member) (i : ItemId) (unit : ℕ)
         (value : List ℕ) (cells : List Cell) →
         WellFormed w → RepresentsWorld w c → ChangesMember m n c d → m.clock < max_tick →
         unit < c.units →
         state_of m.items i ≡ Some (Live cells) →
-        Rises m n (with_state i (Live (cells_with m cells unit value)) m.items) →
+        Rises c.units m n (with_state i (Live (cells_with m cells unit value)) m.items) →
         Continues w (Make m.id i (next_version m) (edited_contents unit value)) d }
     ensures deleted { (w : World) (c d : Community) (m n : Member) (i : ItemId)
         (cells : List Cell) →
         WellFormed w → RepresentsWorld w c → ChangesMember m n c d → m.clock < max_tick →
         state_of m.items i ≡ Some (Live cells) →
-        Rises m n (with_state i (Dead (next_version m)) m.items) →
+        Rises c.units m n (with_state i (Dead (next_version m)) m.items) →
         Continues w (Make m.id i (next_version m) (deleted_contents c.units)) d }
     ensures acted { (w : World) (event : Event) (c d : Community) (m n : Member) →
         WellFormed w → RepresentsWorld w c → Legal w event → IsOf event m.id →

@@ -14,7 +14,8 @@ use Rattle.sfx_model.specs.Members.{ItemState, Member, state_of, vector_at}
 use Rattle.sfx_model.specs.Sets.{Has}
 use Rattle.sfx_model.specs.World.{IsContained}
 use Rattle.sfx_model.proofs.Rising.{before_differs, ids_compared}
-use Rattle.sfx_provider.specs.Commit.{CommitData, committed, put_all}
+use Rattle.sfx_model.specs.Putting.{put_all}
+use Rattle.sfx_provider.specs.Commit.{CommitData, committed}
 use Rattle.sfx_provider.specs.Exact.{Commits}
 use Rattle.sfx_provider.specs.Fits.{Fits, IsKnownItem}
 use Rattle.sfx_provider.proofs.Puts.{puts_found, puts_others, puts_rising}

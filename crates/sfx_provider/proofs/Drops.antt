@@ -6,7 +6,7 @@ use Rattle.sfx_model.specs.Members.{MemberItem, AreRising, state_of}
 use Rattle.sfx_model.specs.Sets.{Has}
 use Rattle.sfx_model.proofs.Rising.{before_differs, ids_compared, state_behind, state_below}
 use Rattle.sfx_model.proofs.Steps.{same_item_is}
-use Rattle.sfx_provider.specs.Commit.{drop_item, drop_all}
+use Rattle.sfx_model.specs.Putting.{drop_item, drop_all}
 
 -- What is left was there.
 drop_has : (i : ItemId) (xs : List MemberItem) (y : MemberItem) → Has y (drop_item i xs) → Has y xs

@@ -6,7 +6,7 @@ use Rattle.sfx_model.specs.Members.{ItemState, MemberItem, AreRising, state_of}
 use Rattle.sfx_model.proofs.Placing.{with_rising, with_found, with_others, state_rising, state_found, state_others}
 use Rattle.sfx_model.proofs.Rising.{state_below}
 use Rattle.sfx_model.proofs.Steps.{same_item_is, same_item_self}
-use Rattle.sfx_provider.specs.Commit.{put_for, put_item, put_all}
+use Rattle.sfx_model.specs.Putting.{put_for, put_item, put_all}
 
 -- Ids of which the test finds that they are not the same.
 pub ids_differ : (i j : ItemId) → same_item i j ≡ false → i ≢ j

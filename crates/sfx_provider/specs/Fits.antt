@@ -11,14 +11,9 @@ use Rattle.sfx_knowledge.specs.Knowledge.{Known, KnowsVersion, tick_at}
 use Rattle.sfx_knowledge.specs.Forgotten.{Forgets, fvec}
 use Rattle.sfx_model.specs.Consistent.{IsItemState, AreApart}
 use Rattle.sfx_model.specs.Headline.{version_at}
-use Rattle.sfx_model.specs.Members.{ItemState, Member, AreRising, IsIdBelow, state_of, vector_at}
+use Rattle.sfx_model.specs.Members.{ItemState, Member, AreIdsRising, AreRising, state_of, vector_at}
 use Rattle.sfx_model.specs.Sets.{Has}
 use Rattle.sfx_provider.specs.Commit.{CommitData, committed}
-
--- The ids ascend, and no two are the same.
-abbrev pub AreIdsRising : List ItemId → Type 0
-AreIdsRising [] = Unit {0}
-AreIdsRising (i ∷ is) = ((j : ItemId) → Has j is → IsIdBelow i j) × AreIdsRising is
 
 -- What is known covers all that the replica knew, its own versions included.
 abbrev pub CoversKnowledge : ℕ → Member → Known → Type 0

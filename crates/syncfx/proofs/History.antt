@@ -126,12 +126,12 @@ forgotten_nowhere : (b : Bool) (r : ℕ) → tick_of (if b then [] else []) r �
 forgotten_nowhere true r = refl
 forgotten_nowhere false r = refl
 
-new_state : (id : ℕ) → IsNewState id (new_member id)
-new_state id = record {
+new_state : (units id : ℕ) → IsNewState units id (new_member id)
+new_state units id = record {
   id_is = refl;
   clock = refl;
-  knowledge = λ place u r other. known_nowhere (cut_le Start place) u r;
-  forgotten = λ place r. forgotten_nowhere (cut_le Start place) r;
+  knowledge = λ place u r there small other. known_nowhere (cut_le Start place) u r;
+  forgotten = λ place r there. forgotten_nowhere (cut_le Start place) r;
   items = refl;
 }
 
@@ -172,7 +172,7 @@ replica_happens w c name id ok rep = by_units (nat_eq c.units 0) refl where
   by_id true e units names = none_refused w c IdTaken ok rep
   by_id false e units names =
       event_happens w (Join name id) Done (with_added name (new_member id) c)
-      (join_state w c name id (new_member id) ok rep (some_units c.units units) (untaken name id c.members names e) (new_state id))
+      (join_state w c name id (new_member id) ok rep (some_units c.units units) (untaken name id c.members names e) (new_state c.units id))
 
   by_name : (b : Bool) → has_name name c.members ≡ b → nat_eq c.units 0 ≡ false
       → Happens w (if b then refused c NameTaken else if has_id id c.members then refused c IdTaken else joined)
@@ -185,8 +185,8 @@ replica_happens w c name id ok rep = by_units (nat_eq c.units 0) refl where
   by_units false e = by_name (has_name name c.members) refl e
 
 -- a member whose clock rises
-rises : (m : Member) (items : _) → Rises m (risen m items) items
-rises m items = record { id = refl; clock = refl; knowledge = λ place u r other. refl; forgotten = refl; holds = refl }
+rises : (units : ℕ) (m : Member) (items : _) → Rises units m (risen m items) items
+rises units m items = record { id = refl; clock = refl; knowledge = λ place u r there small other. refl; forgotten = refl; holds = refl }
 
 -- `create`
 created_by : (w : World) (c : Community) (name : List ℕ) (values : List (List ℕ)) (m : NamedMember) → member_of c.members name ≡ Some m → length values ≡ c.units
@@ -197,7 +197,7 @@ created_by w c name values m found whole ok rep None e =
     let n = created m.member values in
     let d : Community = record { units = c.units; members = with_member m.name n c.members } in
     event_happens w (Make m.member.id (next_item m.member) (next_version m.member) (created_contents values)) (Created (next_item m.member)) d
-    (create_turn w c d m.member n values ok rep (changes c name m n found) (can_rise m.member room) whole (rises m.member n.items))
+    (create_turn w c d m.member n values ok rep (changes c name m n found) (can_rise m.member room) whole (rises c.units m.member n.items))
 
 create_happens : (w : World) (c : Community) (name : List ℕ) (values : List (List ℕ)) (o : Option NamedMember) → member_of c.members name ≡ o
     → WellFormed w → RepresentsWorld w c → Happens w (create_line c name o values)
@@ -224,7 +224,7 @@ edited_by w c name m i unit value (Some (Live cells)) found held none ok rep =
     let n = edited_from m.member i unit value (Some (Live cells)) in
     let d : Community = record { units = c.units; members = with_member m.name n c.members } in
     event_happens w (Make m.member.id i (next_version m.member) (edited_contents unit value)) (Changed (next_version m.member)) d
-    (edit_turn w c d m.member n i unit value cells ok rep (changes c name m n found) may.room may.inside held (rises m.member n.items))
+    (edit_turn w c d m.member n i unit value cells ok rep (changes c name m n found) may.room may.inside held (rises c.units m.member n.items))
 
 set_happens : (w : World) (c : Community) (name : List ℕ) (i : ItemId) (unit : ℕ) (value : List ℕ) (o : Option NamedMember) → member_of c.members name ≡ o
     → WellFormed w → RepresentsWorld w c → Happens w (set_turn c name o i unit value)

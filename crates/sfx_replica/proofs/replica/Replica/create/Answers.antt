@@ -46,4 +46,4 @@ returns-clause-acts g c w ok units stands =
     let n = member_view c.self.inside.id (c.self.inside.clock + 1) c.self.inside.knowledge c.self.inside.forgotten c.insert.new.items.items in
     subst (λ (x : Member). ActsIn w (Make x.id (next_item x) (next_version x) (created_contents c.args.values.items)) x.id n) c.self.view_is
     (created_acts w m n c.args.values.items ok here c.self.invariant.rising room (c.requires.whole ∙ sym units)
-    (record { id = refl; clock = refl; knowledge = λ place u r other. refl; forgotten = refl; holds = holds }))
+    (record { id = refl; clock = refl; knowledge = λ place u r there small other. refl; forgotten = refl; holds = holds }))

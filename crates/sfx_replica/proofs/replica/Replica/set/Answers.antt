@@ -150,4 +150,4 @@ returns-clause-acts g c w ok units stands =
     subst (λ (x : Member). ActsIn w (Make x.id c.args.id.now (next_version x) (edited_contents c.args.k c.args.value)) x.id n) c.self.view_is
     (edited_acts w m n c.args.id.now c.args.k c.args.value c.in-Live.row ok here c.self.invariant.rising may.room
     (subst (λ (x : ℕ). c.args.k < x) (sym units) small) live
-    (record { id = refl; clock = refl; knowledge = λ place u r other. refl; forgotten = refl; holds = holds }))
+    (record { id = refl; clock = refl; knowledge = λ place u r there small other. refl; forgotten = refl; holds = holds }))
