@@ -32,3 +32,4 @@ pub mod Accepted
 pub mod Run
 pub mod Classes
 pub mod Staying
+pub mod Learned
