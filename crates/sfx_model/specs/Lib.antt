@@ -12,3 +12,16 @@ pub mod Snapshots
 pub mod Items
 pub mod Consistent
 pub mod Readings
+pub mod Units
+pub mod Rules
+pub mod Class
+pub mod Draft
+pub mod Renamed
+pub mod Clashes
+pub mod Knowing
+pub mod Batch
+pub mod Putting
+pub mod Entry
+pub mod Moments
+pub mod Session
+pub mod SessionExamples

@@ -2,16 +2,35 @@
 //! represents its part of a world, and the laws of these.
 #![tactic(auto)]
 
+pub use absent::Absent;
+pub use apply_end::ApplyEnd;
 pub use clash_rule::ClashRule;
+pub use entry_kind::EntryKind;
 pub use keep::Keep;
+pub use mark::Mark;
 pub use members::{edits_act, knowledge_is_exact, members_stand, state_stands};
+pub use mode::Mode;
 pub use results::results_follow;
+pub use session_end::SessionEnd;
+pub use sessions::{
+    clashes_on_examples, conflicts_on_examples, moments_join, new_names_on_examples,
+    sessions_on_examples,
+};
 pub use snapshots::{marks_are_legal, snapshots_stay};
+pub use unit_class::UnitClass;
 pub use world::{events_keep, examples, marks_agree, short_run};
 
+mod absent;
+mod apply_end;
 mod clash_rule;
+mod entry_kind;
 mod keep;
+mod mark;
 mod members;
+mod mode;
 mod results;
+mod session_end;
+mod sessions;
 mod snapshots;
+mod unit_class;
 mod world;

@@ -1,0 +1,82 @@
+ghost use Rattle.std.specs.Prelude.{◌≡◌, ◌++◌, ℕ, List, [], ◌∷◌, Some, None, codes, replicate};
+ghost use Rattle.sfx_ids.specs.declared.cut.Cut.TheVariants.{After, End, Start};
+ghost use Rattle.sfx_model.specs.Moments.{Moment, committed};
+ghost use Rattle.sfx_model.specs.Renamed.{renamed};
+ghost use Rattle.sfx_model.specs.SessionExamples.{after, collision, conflict, created_of, creator, dead_of, deletion, editor, entries_of, entry, first, first_two, five, item_of, items_after, known_after, live_of, new, other, quiet, ranges_of, receiver, rest_of, revalued, second_collision, skipping, two, unknown_value, version_of};
+ghost use Rattle.sfx_model.specs.declared.clash_rule.ClashRule.TheVariants.{Destination, RenameDestination, RenameSource, Skip, Source};
+ghost use Rattle.sfx_model.specs.declared.entry_kind.EntryKind.TheVariants.{Deleted, Renamed, Settled, Skipped, Took};
+ghost use Rattle.sfx_model.specs.declared.keep.Keep.TheVariants.{Destination as KeepDestination, Merge, Skip as KeepNone, Source as KeepSource};
+ghost use Rattle.sfx_model.specs.declared.mark.Mark.TheVariants.{Left, Stamped, Stays, Taken};
+ghost use Rattle.sfx_model.specs.declared.session_end.SessionEnd.TheVariants.{Cut, Done};
+
+/// Moments that follow others add their committed states. Nothing happens when this function is called.
+pub fn moments_join()
+    ensures { (group : ℕ) (xs ys : List Moment) → committed group (xs ++ ys) ≡ committed group xs ++ committed group ys }
+{}
+
+/// Small sessions that meet no conflict. Nothing happens when this function is called.
+///
+/// `taken`, `learned`: a new item is taken, and the destination then has it and knows what the source
+/// knows. `unsent`: nothing is sent to one that knows it. `edited`, `changed`: of an item the unit that
+/// changed is taken, and the other stays. `cut`, `cut_end`, `cut_known`: a session that is cut learns the
+/// items of its entries alone. `rest`, `rest_known`: the next session sends the others and learns the
+/// whole range. `batches`, `batches_end`: in batches of one change each, the second range begins where
+/// the first ends.
+pub fn sessions_on_examples()
+    ensures taken { entries_of (skipping creator new 100 None) ≡ quiet first Took Taken Taken ∷ [] }
+    ensures learned { after (skipping creator new 100 None) ≡ receiver }
+    ensures unsent { ranges_of (skipping creator (editor (codes "y")) 100 None) ≡ (Start, End, 0) ∷ [] }
+    ensures edited { entries_of (skipping (editor (codes "y")) creator 100 None) ≡ quiet first Took Stays Taken ∷ [] }
+    ensures changed { items_after (skipping (editor (codes "y")) creator 100 None) ≡ revalued (version_of 1 11) (codes "y") ∷ [] }
+    ensures cut { entries_of (skipping five new 100 (Some 2)) ≡ quiet (item_of 1 10) Took Taken Taken ∷ quiet (item_of 2 10) Took Taken Taken ∷ [] }
+    ensures cut_end { (skipping five new 100 (Some 2)).end ≡ Cut }
+    ensures cut_known { known_after (skipping five new 100 (Some 2)) ≡ first_two }
+    ensures rest { ranges_of rest_of ≡ (Start, End, 3) ∷ [] }
+    ensures rest_known { after rest_of ≡ after (skipping five new 100 None) }
+    ensures batches { ranges_of (skipping two new 1 None) ≡ (Start, After first, 1) ∷ (After first, End, 1) ∷ [] }
+    ensures batches_end { (skipping two new 1 None).end ≡ Done }
+{}
+
+/// Small sessions in which both sides changed an item, under each rule: its value on both sides (`source`,
+/// `destination`, `merge`, `skip`), or the source deleted it (`deleted`, `kept`, `merged`). Each clause is
+/// followed by one on the item afterwards, and under the skip rule on what is known. Nothing happens when
+/// this function is called.
+pub fn conflicts_on_examples()
+    ensures source { entries_of (conflict KeepSource) ≡ entry first Settled Stays Stamped (Some 2) None [] ∷ [] }
+    ensures source_item { items_after (conflict KeepSource) ≡ revalued (version_of 2 11) (codes "aa") ∷ [] }
+    ensures destination { entries_of (conflict KeepDestination) ≡ entry first Settled Stays Stamped (Some 2) None [] ∷ [] }
+    ensures destination_item { items_after (conflict KeepDestination) ≡ revalued (version_of 2 11) (codes "b") ∷ [] }
+    ensures merge_item { items_after (conflict Merge) ≡ revalued (version_of 2 11) (codes "aa") ∷ [] }
+    ensures skip { entries_of (conflict KeepNone) ≡ quiet first Skipped Stays Left ∷ [] }
+    ensures skip_item { items_after (conflict KeepNone) ≡ revalued (version_of 1 11) (codes "b") ∷ [] }
+    ensures skip_known { known_after (conflict KeepNone) ≡ unknown_value }
+    ensures deleted { entries_of (deletion KeepSource) ≡ entry first Settled Stamped Stamped (Some 2) None [] ∷ [] }
+    ensures deleted_item { items_after (deletion KeepSource) ≡ dead_of first (version_of 2 11) ∷ [] }
+    ensures kept_item { items_after (deletion KeepDestination) ≡ live_of first (version_of 2 11) (codes "n1") (version_of 2 11) (codes "b") ∷ [] }
+    ensures merged_item { items_after (deletion Merge) ≡ live_of first (version_of 2 11) (codes "n1") (version_of 2 11) (codes "b") ∷ [] }
+    ensures left { entries_of (deletion KeepNone) ≡ quiet first Skipped Left Left ∷ [] }
+{}
+
+/// Small sessions in which an item `dir` comes to a destination that has an item `dir/f`, under each rule,
+/// and one in which the first new name is not free. Nothing happens when this function is called.
+pub fn clashes_on_examples()
+    ensures rename_source { entries_of (collision RenameSource) ≡ entry first Renamed Stamped Taken (Some 2) (Some (codes "dir~1")) [] ∷ [] }
+    ensures source { entries_of (collision Source) ≡ entry first Took Taken Taken None None (other (item_of 1 11) 2 None ∷ []) ∷ [] }
+    ensures source_items { items_after (collision Source) ≡ created_of 1 10 (codes "dir") ∷ dead_of (item_of 1 11) (version_of 2 11) ∷ [] }
+    ensures destination { entries_of (collision Destination) ≡ entry first Deleted Stamped Stamped (Some 2) None [] ∷ [] }
+    ensures destination_items { items_after (collision Destination) ≡ dead_of first (version_of 2 11) ∷ created_of 1 11 (codes "dir/f") ∷ [] }
+    ensures rename_destination { entries_of (collision RenameDestination) ≡ entry first Took Taken Taken None None (other (item_of 1 11) 2 (Some (codes "dir~1/f")) ∷ []) ∷ [] }
+    ensures rename_items { items_after (collision RenameDestination) ≡ created_of 1 10 (codes "dir") ∷ live_of (item_of 1 11) (version_of 2 11) (codes "dir~1/f") (version_of 1 11) (codes "x") ∷ [] }
+    ensures skip { entries_of (collision Skip) ≡ quiet first Skipped Left Left ∷ [] }
+    ensures taken_name { entries_of second_collision ≡ entry first Renamed Stamped Taken (Some 3) (Some (codes "dir~2")) [] ∷ [] }
+{}
+
+/// New names on small texts. Nothing happens when this function is called.
+pub fn new_names_on_examples()
+    ensures plain { renamed (codes "dir") 1 ≡ codes "dir~1" }
+    ensures marked { renamed (codes "dir~7/f") 2 ≡ codes "dir~2/f" }
+    ensures mark_alone { renamed (codes "~3") 1 ≡ codes "~1" }
+    ensures no_mark { renamed (codes "a~b~") 1 ≡ codes "a~b~~1" }
+    ensures cut_short { renamed (replicate 255 97) 1 ≡ replicate 253 97 ++ codes "~1" }
+    ensures no_room { renamed (97 ∷ 47 ∷ replicate 253 98) 1 ≡ codes "~1" }
+{}
