@@ -33,3 +33,5 @@ pub mod Run
 pub mod Classes
 pub mod Staying
 pub mod Learned
+pub mod Storing
+pub mod Forgetting

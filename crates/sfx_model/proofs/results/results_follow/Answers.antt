@@ -1,4 +1,6 @@
 use Rattle.sfx_model.proofs.Learned.{ticks_laid, laid_learned, learned_item, learned_range, forgot_both}
+use Rattle.sfx_model.proofs.Storing.{stored_form, stored_has, stored_is}
+use Rattle.sfx_model.proofs.Forgetting.{forgot_all, forgets_form, forgets_are}
 use Rattle.sfx_knowledge.specs.Knowledge.{learned}
 use Rattle.sfx_model.proofs.results.results_follow.Goals as goal
 
@@ -16,3 +18,21 @@ returns-clause-range c = learned_range
 
 pub returns-clause-forgot : goal.returns-clause-forgot
 returns-clause-forgot c = forgot_both
+
+pub returns-clause-form : goal.returns-clause-form
+returns-clause-form c = stored_form
+
+pub returns-clause-stored : goal.returns-clause-stored
+returns-clause-stored c = stored_has
+
+pub returns-clause-known : goal.returns-clause-known
+returns-clause-known c = stored_is
+
+pub returns-clause-forgets_form : goal.returns-clause-forgets_form
+returns-clause-forgets_form c = forgets_form
+
+pub returns-clause-joined : goal.returns-clause-joined
+returns-clause-joined c = forgot_all
+
+pub returns-clause-forgets : goal.returns-clause-forgets
+returns-clause-forgets c = forgets_are
