@@ -32,3 +32,6 @@ pub mod Accepted
 pub mod Run
 pub mod Classes
 pub mod Staying
+pub mod Learned
+pub mod Storing
+pub mod Forgetting

@@ -5,6 +5,7 @@ use Rattle.sfx_ids.specs.declared.item_id.ItemId.{ItemId}
 use Rattle.sfx_ids.specs.declared.version.Version.{Version}
 use Rattle.sfx_ids.specs.Cut.{is_between}
 use Rattle.sfx_segments.specs.Segments.{IsPlace}
+use Rattle.sfx_knowledge.specs.Skips.{is_skipped}
 use Rattle.sfx_item.specs.declared.cell.Cell.{Cell}
 use Rattle.sfx_model.specs.Sets.{Has}
 use Rattle.sfx_model.specs.World.{Content, Written, Deleted, Snapshot, World, Made, IsContained}
@@ -67,6 +68,10 @@ abbrev pub joined_in : Cut → Cut → (ItemId → ℕ → Bool) → (Cut → �
 joined_in lo hi left here made_with place u r =
     if is_between lo hi place && not (is_left_at left place u) then max (here place u r) (made_with place u r)
     else here place u r
+
+-- Of this item just those units are skipped that the marks leave alone.
+abbrev pub SkipsLeft : ℕ → ItemId → (ℕ → UnitMark) → List (ItemId × ℕ) → Type 0
+SkipsLeft units i marks skipped = (u : ℕ) → u < units → (is_skipped skipped i u ≡ true) ↔ (marks u ≡ Left)
 
 -- Both pieces of knowledge agree at every place and unit.
 abbrev pub SameVectors : ℕ → (Cut → ℕ → ℕ → ℕ) → (Cut → ℕ → ℕ → ℕ) → Type 0

@@ -10,6 +10,7 @@ pub use keep::Keep;
 pub use mark::Mark;
 pub use members::{edits_act, knowledge_is_exact, members_stand, state_stands};
 pub use mode::Mode;
+pub use results::results_follow;
 pub use session_end::SessionEnd;
 pub use sessions::{
     clashes_on_examples, conflicts_on_examples, moments_join, new_names_on_examples,
@@ -27,6 +28,7 @@ mod keep;
 mod mark;
 mod members;
 mod mode;
+mod results;
 mod session_end;
 mod sessions;
 mod snapshots;
