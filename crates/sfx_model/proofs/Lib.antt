@@ -35,3 +35,5 @@ pub mod Staying
 pub mod Learned
 pub mod Storing
 pub mod Forgetting
+pub mod Bounds
+pub mod Knowing
