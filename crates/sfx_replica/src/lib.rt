@@ -2,12 +2,15 @@
 #![tactic(auto)]
 
 pub use edit_fault::EditFault;
+pub use memory_provider::MemoryProvider;
 pub use replica::Replica;
 
 mod clashes;
 mod edit_fault;
 mod items;
 mod live;
+mod memory_provider;
 mod replica;
 #[cfg(test)]
 mod tests;
+mod unseen;
