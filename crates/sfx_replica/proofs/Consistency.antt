@@ -33,7 +33,8 @@ use Rattle.sfx_model.proofs.Acts.{set_cases}
 use Rattle.sfx_model.proofs.Placing.{with_rising, with_found, with_others, state_rising, state_found, state_others}
 use Rattle.sfx_model.proofs.Steps.{same_item_is, same_item_self}
 use Rattle.sfx_model.specs.Readings.{first_clash, is_in_the_way, is_excepted}
-use Rattle.sfx_provider.specs.Commit.{CommitData, drop_all, put_all}
+use Rattle.sfx_model.specs.Putting.{drop_all, put_all}
+use Rattle.sfx_provider.specs.Commit.{CommitData}
 use Rattle.sfx_provider.specs.Fits.{Fits}
 use Rattle.sfx_provider.proofs.Commits.{IsStored, commits_consistent}
 use Rattle.sfx_replica.specs.Edits.{new_member, risen, created}

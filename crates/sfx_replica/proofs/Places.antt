@@ -12,7 +12,7 @@ use Rattle.sfx_item.specs.declared.state.State.TheVariants.{Live as LiveRow, Dea
 use Rattle.sfx_model.specs.Events.{same_item}
 use Rattle.sfx_model.specs.Members.{ItemState, Live, MemberItem, state_of}
 use Rattle.sfx_model.specs.Items.{item_view, items_view, state_view}
-use Rattle.sfx_provider.specs.Commit.{drop_all, drop_item, put_for, put_item}
+use Rattle.sfx_model.specs.Putting.{drop_all, drop_item, put_for, put_item}
 use Rattle.sfx_replica.specs.Items.{place_for}
 use Rattle.sfx_replica.proofs.Gathering.{opened}
 use Rattle.sfx_model.specs.States.{is_id_below, with_item, with_state}

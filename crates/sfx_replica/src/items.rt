@@ -5,7 +5,7 @@ ghost use Rattle.sfx_model.specs.Events.{same_item};
 ghost use Rattle.sfx_model.specs.Items.{item_view, items_view};
 ghost use Rattle.sfx_model.specs.States.{cells_at, with_item};
 ghost use Rattle.sfx_model.specs.Readings.{first_from};
-ghost use Rattle.sfx_provider.specs.Commit.{drop_all, drop_item, put_all, put_item};
+ghost use Rattle.sfx_model.specs.Putting.{drop_all, drop_item, put_all, put_item};
 ghost use Rattle.sfx_replica.specs.Items.{place_for};
 
 use sfx_ids::{Cut, ItemId, Memory, Version};

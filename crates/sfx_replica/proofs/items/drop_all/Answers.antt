@@ -1,5 +1,5 @@
 use Rattle.sfx_model.specs.Items.{items_view}
-use Rattle.sfx_provider.specs.Commit.{drop_all}
+use Rattle.sfx_model.specs.Putting.{drop_all}
 use Rattle.sfx_replica.proofs.Places.{drops_on}
 use Rattle.sfx_replica.proofs.items.drop_all.Goals as goal
 

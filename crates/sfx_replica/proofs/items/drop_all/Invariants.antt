@@ -1,6 +1,6 @@
 use Rattle.std.proofs.Common.{◌≡◌, drop}
 use Rattle.sfx_model.specs.Items.{items_view}
-use Rattle.sfx_provider.specs.Commit.{drop_all}
+use Rattle.sfx_model.specs.Putting.{drop_all}
 use Rattle.sfx_replica.proofs.items.drop_all.Given as goal
 
 -- the ids that are left take away what all do

@@ -2,7 +2,7 @@ use Rattle.std.proofs.Common.{◌≡◌, ◌≤◌, ◌+◌, length}
 use Rattle.std.specs.Prelude.{vec_capacity, vec_len}
 use Rattle.std.specs.Vec.Iter.{into_iter_items, into_iter_len}
 use Rattle.sfx_model.specs.Items.{items_view}
-use Rattle.sfx_provider.specs.Commit.{put_all}
+use Rattle.sfx_model.specs.Putting.{put_all}
 use Rattle.sfx_replica.proofs.items.put_all.Given as goal
 
 -- the items that are left are put as all are, and have room

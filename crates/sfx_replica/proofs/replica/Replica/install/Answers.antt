@@ -2,7 +2,8 @@ use Rattle.std.proofs.Common.{◌≡◌, ◌∙◌, ap, sym, subst, refl, List}
 use Rattle.sfx_item.specs.declared.item.Item.{Item}
 use Rattle.sfx_model.specs.Items.{items_view}
 use Rattle.sfx_model.specs.Members.{Member}
-use Rattle.sfx_provider.specs.Commit.{CommitData, drop_all, put_all}
+use Rattle.sfx_model.specs.Putting.{drop_all, put_all}
+use Rattle.sfx_provider.specs.Commit.{CommitData}
 use Rattle.sfx_provider.specs.Fits.{Fits}
 use Rattle.sfx_replica.specs.Replica.{member_view}
 use Rattle.sfx_replica.proofs.Consistency.{installed_consistent}
