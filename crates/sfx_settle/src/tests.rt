@@ -91,31 +91,37 @@ fn dead(rt: &impl Abort, of: Version) -> Item<2> {
     }
 }
 
-#[test]
-fn knows_what_it_has_seen(rt: HostRuntime) -> Result<(), Fail> {
-    let alloc = rt.alloc();
-    let change = live(&rt, alloc, version(&rt, A, 1))?;
-    let there = known(alloc, 1, 0)?;
-    let none = Forgotten::none(alloc);
-    let class = classify(alloc, &change, &there, None, &known(alloc, 1, 0)?, &none)?;
-    assert!(rt; matches!(class, Class::Known));
-    let class = classify(alloc, &change, &there, None, &known(alloc, 0, 0)?, &none)?;
-    assert!(rt; matches!(class, Class::TakeWhole));
-    Ok(())
+/// What the class of an item that is absent is: known, taken, or in conflict.
+#[derive(Clone, Copy, Debug, PartialEq, Eq)]
+enum Told {
+    Known,
+    Taken,
+    Conflict,
+}
+
+/// The class of a change of this version, whose source knows `a=1 b=1`, where the item is absent, this tick
+/// of `a` is known, and this one forgotten.
+fn absent(rt: &impl Abort, alloc: Global, of: Version, a: u64, gone: u64) -> Result<Told, Memory> {
+    let change = live(rt, alloc, of)?;
+    let there = known(alloc, 1, 1)?;
+    let here = known(alloc, a, 0)?;
+    let forgotten = forgotten(rt, alloc, gone)?;
+    match classify(alloc, &change, &there, None, &here, &forgotten)? {
+        Class::Known => Ok(Told::Known),
+        Class::TakeWhole => Ok(Told::Taken),
+        _ => Ok(Told::Conflict),
+    }
 }
 
 #[test]
-fn asks_what_was_forgotten(rt: HostRuntime) -> Result<(), Fail> {
+fn classifies_what_is_absent(rt: HostRuntime) -> Result<(), Fail> {
     let alloc = rt.alloc();
-    let change = live(&rt, alloc, version(&rt, B, 1))?;
-    let there = known(alloc, 1, 1)?;
-    let here = known(alloc, 1, 0)?;
-    let within = forgotten(&rt, alloc, 1)?;
-    let class = classify(alloc, &change, &there, None, &here, &within)?;
-    assert!(rt; matches!(class, Class::TakeWhole));
-    let beyond = forgotten(&rt, alloc, 2)?;
-    let class = classify(alloc, &change, &there, None, &here, &beyond)?;
-    assert!(rt; matches!(class, Class::WholeConflict));
+    let own = version(&rt, A, 1);
+    let other = version(&rt, B, 1);
+    assert_eq!(rt; absent(&rt, alloc, own, 1, 1)?, Told::Known);
+    assert_eq!(rt; absent(&rt, alloc, own, 0, 1)?, Told::Taken);
+    assert_eq!(rt; absent(&rt, alloc, other, 1, 1)?, Told::Taken);
+    assert_eq!(rt; absent(&rt, alloc, other, 1, 2)?, Told::Conflict);
     Ok(())
 }
 
@@ -141,40 +147,52 @@ fn goes_unit_by_unit(rt: HostRuntime) -> Result<(), Fail> {
     Ok(())
 }
 
-/// Whether the change is taken where the source knows this tick of `b`, and not in conflict.
-fn is_taken(alloc: Global, change: &Item<2>, local: &Item<2>, b: u64) -> Result<bool, Memory> {
+/// The first item, live with its value at this version or dead by it.
+fn state(rt: &impl Abort, alloc: Global, of: Version, is_live: bool) -> Result<Item<2>, Memory> {
+    if is_live {
+        live(rt, alloc, of)
+    } else {
+        Ok(dead(rt, of))
+    }
+}
+
+/// Whether a change at `2@a` is taken by one that holds `1@b`, where the source knows this tick of `b`; each
+/// of them live or dead.
+fn taken(rt: &impl Abort, alloc: Global, seen: bool, held: bool, b: u64) -> Result<bool, Memory> {
+    let change = state(rt, alloc, version(rt, A, 2), seen)?;
+    let local = state(rt, alloc, version(rt, B, 1), held)?;
     let there = known(alloc, 2, b)?;
     let here = known(alloc, 1, 1)?;
     let none = Forgotten::none(alloc);
-    let class = classify(alloc, change, &there, Some(local), &here, &none)?;
+    let class = classify(alloc, &change, &there, Some(&local), &here, &none)?;
     Ok(matches!(class, Class::TakeWhole))
 }
 
 #[test]
 fn takes_what_knew_the_local_state(rt: HostRuntime) -> Result<(), Fail> {
     let alloc = rt.alloc();
-    let seen = live(&rt, alloc, version(&rt, A, 2))?;
-    let gone = dead(&rt, version(&rt, A, 2));
-    let held = live(&rt, alloc, version(&rt, B, 1))?;
-    let lost = dead(&rt, version(&rt, B, 1));
-    assert!(rt; is_taken(alloc, &gone, &held, 1)? && !is_taken(alloc, &gone, &held, 0)?);
-    assert!(rt; is_taken(alloc, &seen, &lost, 1)? && !is_taken(alloc, &seen, &lost, 0)?);
-    assert!(rt; is_taken(alloc, &gone, &lost, 1)? && !is_taken(alloc, &gone, &lost, 0)?);
+    for (seen, held) in [(false, true), (true, false), (false, false)] {
+        assert!(rt; taken(&rt, alloc, seen, held, 1)?);
+        assert!(rt; !taken(&rt, alloc, seen, held, 0)?);
+    }
     Ok(())
 }
 
-fn marks(rt: &impl Abort, draft: &Draft<2>) -> (Mark, Mark) {
-    (draft.marks.get(unit(rt, 0)), draft.marks.get(unit(rt, 1)))
+/// The marks of a draft, and how long its value for unit 1 is; 0 where it has no values.
+fn result_of(rt: &impl Abort, draft: &Draft<2>) -> (Mark, Mark, usize) {
+    let length = match &draft.values {
+        None => 0,
+        Some(values) => values.get(1).map_or(0, |value| value.bytes().len()),
+    };
+    (
+        draft.marks.get(unit(rt, 0)),
+        draft.marks.get(unit(rt, 1)),
+        length,
+    )
 }
 
-/// Whether the draft has this value for unit 1; none where it has no values.
-fn has_value(draft: &Draft<2>, text: &str) -> Option<bool> {
-    let values = draft.values.as_ref()?;
-    Some(values.get(1)?.bytes() == text.as_bytes())
-}
-
-/// A draft of `aa` and `b` in conflict under this rule; the name is known.
-fn conflict(rt: &impl Abort, alloc: Global, keep: Keep) -> Result<Draft<2>, Memory> {
+/// The draft of `aa` and `b` in conflict under this rule; the name is known.
+fn conflict(rt: &impl Abort, alloc: Global, keep: Keep) -> Result<(Mark, Mark, usize), Memory> {
     let change = row(rt, alloc, version(rt, A, 2), "aa")?;
     let local = row(rt, alloc, version(rt, B, 1), "b")?;
     let mut classes = UnitClasses::all(alloc, UnitClass::Known)?;
@@ -184,42 +202,54 @@ fn conflict(rt: &impl Abort, alloc: Global, keep: Keep) -> Result<Draft<2>, Memo
         clash: ClashRule::Skip,
         merger: Longer,
     };
-    settle_units(alloc, &change, &local, &classes, &rules)
+    let draft = settle_units(alloc, &change, &local, &classes, &rules)?;
+    Ok(result_of(rt, &draft))
 }
 
 #[test]
 fn settles_units(rt: HostRuntime) -> Result<(), Fail> {
-    let source = conflict(&rt, rt.alloc(), Keep::Source)?;
-    assert_eq!(rt; marks(&rt, &source), (Mark::Stays, Mark::Stamped));
-    assert_eq!(rt; has_value(&source, "aa"), Some(true));
-    let destination = conflict(&rt, rt.alloc(), Keep::Destination)?;
-    assert_eq!(rt; has_value(&destination, "b"), Some(true));
-    let merged = conflict(&rt, rt.alloc(), Keep::Merge)?;
-    assert_eq!(rt; has_value(&merged, "aa"), Some(true));
-    let skipped = conflict(&rt, rt.alloc(), Keep::Skip)?;
-    assert_eq!(rt; marks(&rt, &skipped), (Mark::Stays, Mark::Left));
-    assert_eq!(rt; has_value(&skipped, "b"), Some(true));
+    let alloc = rt.alloc();
+    let stamped = (Mark::Stays, Mark::Stamped);
+    assert_eq!(rt;
+        conflict(&rt, alloc, Keep::Source)?,
+        (stamped.0, stamped.1, 2)
+    );
+    assert_eq!(rt;
+        conflict(&rt, alloc, Keep::Destination)?,
+        (stamped.0, stamped.1, 1)
+    );
+    assert_eq!(rt;
+        conflict(&rt, alloc, Keep::Merge)?,
+        (stamped.0, stamped.1, 2)
+    );
+    assert_eq!(rt;
+        conflict(&rt, alloc, Keep::Skip)?,
+        (Mark::Stays, Mark::Left, 1)
+    );
     Ok(())
+}
+
+/// The draft of a deletion and a live item in conflict under this rule.
+fn deletion(rt: &impl Abort, alloc: Global, keep: Keep) -> Result<(Mark, Mark, usize), Memory> {
+    let gone = dead(rt, version(rt, A, 2));
+    let held = live(rt, alloc, version(rt, B, 1))?;
+    let draft = settle_whole(alloc, Some(&gone), Some(&held), keep)?;
+    Ok(result_of(rt, &draft))
 }
 
 #[test]
 fn settles_whole_items(rt: HostRuntime) -> Result<(), Fail> {
     let alloc = rt.alloc();
-    let gone = dead(&rt, version(&rt, A, 2));
-    let held = live(&rt, alloc, version(&rt, B, 1))?;
-    let source = settle_whole(alloc, Some(&gone), Some(&held), Keep::Source)?;
+    let stamped = Mark::Stamped;
+    assert_eq!(rt; deletion(&rt, alloc, Keep::Source)?, (stamped, stamped, 0));
     assert_eq!(rt;
-        (marks(&rt, &source), has_value(&source, "x")),
-        ((Mark::Stamped, Mark::Stamped), None)
+        deletion(&rt, alloc, Keep::Destination)?,
+        (stamped, stamped, 1)
     );
-    let destination = settle_whole(alloc, Some(&gone), Some(&held), Keep::Destination)?;
-    assert_eq!(rt; has_value(&destination, "x"), Some(true));
-    let merged = settle_whole(alloc, None, Some(&held), Keep::Merge)?;
-    assert_eq!(rt; has_value(&merged, "x"), Some(true));
-    let skipped = settle_whole(alloc, Some(&gone), Some(&held), Keep::Skip)?;
+    assert_eq!(rt; deletion(&rt, alloc, Keep::Merge)?, (stamped, stamped, 1));
     assert_eq!(rt;
-        (marks(&rt, &skipped), has_value(&skipped, "x")),
-        ((Mark::Left, Mark::Left), None)
+        deletion(&rt, alloc, Keep::Skip)?,
+        (Mark::Left, Mark::Left, 0)
     );
     Ok(())
 }
@@ -229,13 +259,13 @@ fn clash(rt: &impl Abort, alloc: Global, rule: ClashRule) -> Result<(Mark, Mark)
     let mut values = Vec::with_capacity(alloc, 2)?;
     values.push(bytes(alloc, "n")?)?;
     values.push(bytes(alloc, "x")?)?;
-    let marks_there = Marks::all(alloc, Mark::Taken)?;
     let draft = Draft {
-        marks: marks_there,
+        marks: Marks::all(alloc, Mark::Taken)?,
         values: Some(values),
     };
     let settled = settle_clash(alloc, draft.copy(alloc)?, rule)?;
-    Ok(marks(rt, &settled))
+    let (name, value, _) = result_of(rt, &settled);
+    Ok((name, value))
 }
 
 #[test]
