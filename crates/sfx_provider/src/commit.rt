@@ -45,8 +45,11 @@ impl<const U: usize> Commit<U> {
     }
 }
 
-/// Equal items.
-fn copies<const U: usize>(alloc: Global, items: &[Item<U>]) -> Result<Vec<Item<U>>, Memory>
+/// Equal items of their own memory, in the same order.
+///
+/// # Errors
+/// `Memory`.
+pub fn copies<const U: usize>(alloc: Global, items: &[Item<U>]) -> Result<Vec<Item<U>>, Memory>
     ensures { IfOk result (λ copies. copies.items ≡ items.now) }
 {
     let mut copies = Vec::with_capacity(alloc, items.len())?;
