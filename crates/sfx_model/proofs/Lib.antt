@@ -32,3 +32,5 @@ pub mod Accepted
 pub mod Run
 pub mod Classes
 pub mod Staying
+pub mod Bounds
+pub mod Knowing
