@@ -3,6 +3,10 @@
 
 pub use batch::Batch;
 pub use batch_fault::BatchFault;
+pub use laws::due_batches_are_right;
+pub use making::make_batch;
 
 mod batch;
 mod batch_fault;
+mod laws;
+mod making;
