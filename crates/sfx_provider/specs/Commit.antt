@@ -6,6 +6,7 @@ use Rattle.sfx_knowledge.specs.Forgotten.{Forgets}
 use Rattle.sfx_knowledge.specs.Forms.{with_own}
 use Rattle.sfx_model.specs.Events.{same_item}
 use Rattle.sfx_model.specs.Members.{ItemState, MemberItem, Member, state_of}
+use Rattle.sfx_provider.specs.Head.{HeadData}
 use Rattle.sfx_model.specs.States.{with_item, with_state}
 
 -- A commit as plain data: the clock, what is known with the clock laid over, and what is forgotten from
@@ -16,6 +17,10 @@ pub record CommitData : Type 0 where
   pub forgotten : Forgets
   pub puts : List MemberItem
   pub drops : List ItemId
+
+-- The commit that changes nothing, of the replica with this head.
+abbrev pub commit_of : HeadData → CommitData
+commit_of h = record { clock = h.clock; knowledge = h.knowledge; forgotten = h.forgotten; puts = []; drops = [] }
 
 -- The items with this one, by the state of that with its id: in its place, or else, where there is none, as
 -- one more in its place by id.
