@@ -1,15 +1,20 @@
 ghost use Rattle.std.specs.Prelude.{◌≡◌, ◌<◌, ◌^◌, ◌↔◌, IsTrue, Contains, if◌then◌else◌};
 ghost use Rattle.sfx_outside.specs.Fault.{counted};
 
-/// How many calls were made of a source or a sink in memory, which of them fail, and how many did.
+/// The calls that were made of something in memory which stands for the outside, as a source or a sink:
+/// which of them fail, how many were made, and how many failed.
 #[derive(Debug, Drop)]
-pub(crate) struct Calls {
+pub struct Calls {
+    /// The numbers of the calls that fail, counted from 1.
     pub fails: Vec<u64>,
+    /// How many calls were made, up to the greatest `u64`.
     pub made: u64,
+    /// How many of them failed, up to the greatest `u64`.
     pub faults: u64,
 }
 
 impl Calls {
+    /// No call made yet. Those whose numbers `fails` lists fail, counted from 1.
     pub fn new(fails: Vec<u64>) -> Self
         ensures fails { result.fails.items ≡ fails.items }
         ensures made { result.made ≡ 0 }

@@ -1,6 +1,7 @@
 //! Where a program reads from and writes to: sources and sinks, in memory and of the process; and texts.
 #![tactic(auto)]
 
+pub use calls::Calls;
 pub use failed::Failed;
 pub use memory_sink::MemorySink;
 pub use memory_source::MemorySource;

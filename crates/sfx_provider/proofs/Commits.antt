@@ -8,6 +8,7 @@ use Rattle.sfx_ids.specs.declared.version.Version.{Version}
 use Rattle.sfx_ids.specs.ItemId.{creation_of}
 use Rattle.sfx_segments.specs.Segments.{IsPlace}
 use Rattle.sfx_knowledge.specs.Knowledge.{IsKnowledge, HasTicks, laid_over, tick_at}
+use Rattle.sfx_knowledge.specs.Forms.{with_own}
 use Rattle.sfx_knowledge.proofs.Making.{IsKnowledge-with_own, ticks-with_own}
 use Rattle.sfx_model.specs.Consistent.{IsConsistent, IsOwned}
 use Rattle.sfx_model.specs.Members.{ItemState, Member, state_of, vector_at}
@@ -21,23 +22,27 @@ use Rattle.sfx_provider.specs.Fits.{Fits, IsKnownItem}
 use Rattle.sfx_provider.proofs.Puts.{puts_found, puts_others, puts_rising}
 use Rattle.sfx_provider.proofs.Drops.{drops_gone, drops_others, drops_rising}
 
--- The ticks of the knowledge that is stored: those of the commit, but for the replica's own.
-stored :
+-- The knowledge that is stored is in its form, and its ticks are those of the commit, but for the replica's
+-- own.
+pub record IsStored (units : ℕ) (c : CommitData) (m : Member) : Type 0 where
+  pub form : IsKnowledge units (with_own units m.id 0 c.knowledge)
+  pub ticks : HasTicks units (with_own units m.id 0 c.knowledge) (laid_over m.id 0 (tick_at c.knowledge))
+
+pub stored :
     (units : ℕ) (c : CommitData) (m : Member)
-    → IsConsistent units m → IsKnowledge units c.knowledge
-    → IsKnowledge units (committed units c m).knowledge × HasTicks units (committed units c m).knowledge (laid_over m.id 0 (tick_at c.knowledge))
-stored units c m good form = (
-  IsKnowledge-with_own units m.id 0 c.knowledge form (omega arith) good.id,
-  ticks-with_own units m.id 0 c.knowledge form (omega arith) good.id,
-)
+    → IsConsistent units m → IsKnowledge units c.knowledge → IsStored units c m
+stored units c m good form = record {
+  form = IsKnowledge-with_own units m.id 0 c.knowledge form (omega arith) good.id;
+  ticks = ticks-with_own units m.id 0 c.knowledge form (omega arith) good.id;
+}
 
 -- The vectors afterwards are those of the commit.
 vectors :
     (units : ℕ) (c : CommitData) (m : Member)
-    → IsConsistent units m → IsKnowledge units c.knowledge → Fits units c m
+    → IsStored units c m → Fits units c m
     → (place : Cut) (u r : ℕ) → IsPlace place → u < units
     → vector_at (committed units c m) place u r ≡ tick_at c.knowledge place u r
-vectors units c m good form fits place u r is small = by_test (nat_eq r m.id) refl
+vectors units c m known fits place u r is small = by_test (nat_eq r m.id) refl
   where
     by_test :
         (b : Bool) → nat_eq r m.id ≡ b
@@ -47,16 +52,16 @@ vectors units c m good form fits place u r is small = by_test (nat_eq r m.id) re
         (sym (fits.own place u is small))
     by_test false other =
         let ticks : tick_at (committed units c m).knowledge place u r ≡ laid_over m.id 0 (tick_at c.knowledge) place u r =
-        (stored units c m good form).1 place u r is small in
+        known.ticks place u r is small in
         ticks ∙ ap (λ (b : Bool). if b then 0 else tick_at c.knowledge place u r) other
 
 pub commits_exact :
     (units : ℕ) (c : CommitData) (m : Member)
-    → IsConsistent units m → IsKnowledge units c.knowledge → Fits units c m → Commits units c m (committed units c m)
-commits_exact units c m good form fits = record {
+    → IsConsistent units m → IsStored units c m → Fits units c m → Commits units c m (committed units c m)
+commits_exact units c m good known fits = record {
   id = refl;
   clock = refl;
-  knowledge = vectors units c m good form fits;
+  knowledge = vectors units c m known fits;
   forgotten = refl;
   put = λ i state is.
       drops_others c.drops (put_all c.puts m.items) i
@@ -133,17 +138,16 @@ kept_owned units c m n i state commits fits owned = record {
 -- The state after a commit is consistent.
 pub commits_consistent :
     (units : ℕ) (c : CommitData) (m : Member)
-    → IsConsistent units m → IsKnowledge units c.knowledge → Fits units c m
+    → IsConsistent units m → IsStored units c m → Fits units c m
     → IsConsistent units (committed units c m)
-commits_consistent units c m good form fits =
-    let exact = commits_exact units c m good form fits in
-    let known = stored units c m good form in record {
+commits_consistent units c m good known fits =
+    let exact = commits_exact units c m good known fits in record {
       some = good.some;
       id = good.id;
       clock = fits.most;
-      knowledge = known.0;
+      knowledge = known.form;
       unstored = λ place u is small.
-          known.1 place u m.id is small ∙ own_tick m.id (tick_at c.knowledge place u m.id);
+          known.ticks place u m.id is small ∙ own_tick m.id (tick_at c.knowledge place u m.id);
       forgotten = fits.made;
       rising = drops_rising c.drops (put_all c.puts m.items) (puts_rising c.puts m.items good.rising);
       items = λ i state is.

@@ -20,7 +20,9 @@ use Rattle.sfx_item.specs.Name.{IsName}
 use Rattle.sfx_item.specs.Row.{IsRow, first_value}
 use Rattle.sfx_item.proofs.Decisions.{name_decided, clash_decided}
 use Rattle.sfx_knowledge.specs.Row.{row_at}
-use Rattle.sfx_knowledge.specs.Knowledge.{no_row}
+use Rattle.sfx_knowledge.specs.Forgotten.{Forgets}
+use Rattle.sfx_knowledge.specs.Forms.{with_own}
+use Rattle.sfx_knowledge.specs.Knowledge.{HasTicks, IsKnowledge, Known, laid_over, no_row, tick_at}
 use Rattle.sfx_model.specs.Consistent.{IsConsistent, IsOwned, AreApart, live_name}
 use Rattle.sfx_model.specs.Events.{same_item}
 use Rattle.sfx_model.specs.Headline.{version_at}
@@ -31,6 +33,10 @@ use Rattle.sfx_model.proofs.Acts.{set_cases}
 use Rattle.sfx_model.proofs.Placing.{with_rising, with_found, with_others, state_rising, state_found, state_others}
 use Rattle.sfx_model.proofs.Steps.{same_item_is, same_item_self}
 use Rattle.sfx_model.specs.Readings.{first_clash, is_in_the_way, is_excepted}
+use Rattle.sfx_model.specs.Putting.{drop_all, put_all}
+use Rattle.sfx_provider.specs.Commit.{CommitData}
+use Rattle.sfx_provider.specs.Fits.{Fits}
+use Rattle.sfx_provider.proofs.Commits.{IsStored, commits_consistent}
 use Rattle.sfx_replica.specs.Edits.{new_member, risen, created}
 use Rattle.sfx_replica.specs.declared.edit_fault.EditFault.{EditFault}
 use Rattle.sfx_replica.specs.declared.edit_fault.EditFault.TheVariants.{BadUnit, ClockFull}
@@ -506,3 +512,18 @@ pub not_refused :
     → slice_get values 0 ≡ Some name → name_refusal m None name ≡ None → full_clock m ≡ None
     → create_refusal m values ≡ None
 not_refused m values name first free room = rw (first, free, room) refl
+
+-- A commit that the state takes leaves it consistent.
+pub installed_consistent :
+    (units : ℕ) (c : CommitData) (m : Member) (known : Known) (forgotten : Forgets) (items : List MemberItem)
+    → IsConsistent units m → Fits units c m
+    → IsKnowledge units known → HasTicks units known (laid_over m.id 0 (tick_at c.knowledge))
+    → known ≡ with_own units m.id 0 c.knowledge → forgotten ≡ c.forgotten
+    → items ≡ drop_all c.drops (put_all c.puts m.items)
+    → IsConsistent units (record { id = m.id; clock = c.clock; knowledge = known; forgotten = forgotten; items = items })
+installed_consistent units c m known forgotten items good fits form ticks own forgets holds =
+    let stored : IsStored units c m = record {
+      form = subst (λ (k : Known). IsKnowledge units k) own form;
+      ticks = subst (λ (k : Known). HasTicks units k (laid_over m.id 0 (tick_at c.knowledge))) own ticks;
+    } in
+    rw (own, forgets, holds) (commits_consistent units c m good stored fits)

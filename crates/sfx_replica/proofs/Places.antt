@@ -1,8 +1,8 @@
 -- A replica's items as plain data: where one stands, what it is, and what they are with another state for
 -- it or with one more.
-use Rattle.std.proofs.Common.{◌≡◌, ℕ, suc, ◌+◌, ◌<◌, ◌≤◌, Bool, true, false, Option, Some, None, List, [], ◌∷◌, length, get_or, set, slice_set, if◌then◌else◌, inl, inr, refl, sym, ap, ◌∙◌, arith, cond}
+use Rattle.std.proofs.Common.{◌≡◌, ℕ, suc, ◌+◌, ◌<◌, ◌≤◌, Bool, true, false, Option, Some, None, List, [], ◌∷◌, length, drop, get_or, set, slice_set, if◌then◌else◌, inl, inr, refl, sym, ap, ◌∙◌, arith, cond}
 use Rattle.std.proofs.lemmas.Bool.{cases_lt}
-use Rattle.std.specs.List.{insert, position_from}
+use Rattle.std.specs.List.{insert, position_from, remove}
 use Rattle.sfx_ids.specs.declared.item_id.ItemId.{ItemId}
 use Rattle.sfx_ids.specs.declared.version.Version.{Version}
 use Rattle.sfx_item.specs.declared.cell.Cell.{Cell}
@@ -12,7 +12,9 @@ use Rattle.sfx_item.specs.declared.state.State.TheVariants.{Live as LiveRow, Dea
 use Rattle.sfx_model.specs.Events.{same_item}
 use Rattle.sfx_model.specs.Members.{ItemState, Live, MemberItem, state_of}
 use Rattle.sfx_model.specs.Items.{item_view, items_view, state_view}
+use Rattle.sfx_model.specs.Putting.{drop_all, drop_item, put_for, put_item}
 use Rattle.sfx_replica.specs.Items.{place_for}
+use Rattle.sfx_replica.proofs.Gathering.{opened}
 use Rattle.sfx_model.specs.States.{is_id_below, with_item, with_state}
 use Rattle.sfx_model.proofs.Steps.{same_item_is}
 
@@ -25,6 +27,7 @@ pub record IsPlace {U : ℕ} (xs : List (Item U)) (i : ItemId) (j : ℕ) : Type 
   pub state : (d : Item U) → state_of (items_view xs) i ≡ Some (state_view (get_or xs j d).state)
   pub id : (d : Item U) → (get_or xs j d).id ≡ i
   pub put : (d y : Item U) → y.id ≡ (get_or xs j d).id → items_view (set xs j y) ≡ with_state i (state_view y.state) (items_view xs)
+  pub removed : items_view (remove xs j) ≡ drop_item i (items_view xs)
 
 abbrev placed_item : ItemId → ItemState → MemberItem
 placed_item id state = record { id = id; state = state }
@@ -45,6 +48,7 @@ place_found {U} (x ∷ xs) i n k e = by_test (place_found xs i (n + 1) k) (same_
           state = λ d. rw test refl;
           id = λ d. same_item_is x.id i test;
           put = λ d y same. rw test (let made : placed_item y.id (state_view y.state) ≡ placed_item x.id (state_view y.state) = rw same refl in ap (λ (z : MemberItem). z ∷ items_view xs) made);
+          removed = rw test refl;
         },
       )
   by_test rest false test e =
@@ -58,6 +62,7 @@ place_found {U} (x ∷ xs) i n k e = by_test (place_found xs i (n + 1) k) (same_
           state = λ d. rw test (is.state d);
           id = is.id;
           put = λ d y same. rw test (ap (λ (zs : List MemberItem). item_view x ∷ zs) (is.put d y same));
+          removed = rw test (ap (λ (zs : List MemberItem). item_view x ∷ zs) is.removed);
         },
       )
 
@@ -129,6 +134,35 @@ edited_view {U} xs i k old y cells place is same live =
     let put = place.put old y (same ∙ ap (λ (x : Item U). x.id) is) in
     rw live at put
 
+-- an item that stands there, or is not there, and one that is put
+pub put_there : {U : ℕ} (xs : List (Item U)) (item old : Item U) (k : ℕ)
+    → IsPlace xs item.id k → old ≡ get_or xs k old → items_view (set xs k item) ≡ put_item (item_view item) (items_view xs)
+put_there {U} xs item old k place is =
+    let id : item.id ≡ (get_or xs k old).id = sym (place.id old) in
+    let there = place.state old in
+    place.put old item id ∙ ap (λ (o : Option ItemState). put_for o (item_view item) (items_view xs)) (sym there)
+
+pub put_new : {U : ℕ} (xs : List (Item U)) (item : Item U)
+    → state_of (items_view xs) item.id ≡ None → with_item (item_view item) (items_view xs) ≡ put_item (item_view item) (items_view xs)
+put_new xs item none = ap (λ (o : Option ItemState). put_for o (item_view item) (items_view xs)) (sym none)
+
+-- nothing is dropped where there is no item
+pub drop_absent : (i : ItemId) (xs : List MemberItem) → state_of xs i ≡ None → drop_item i xs ≡ xs
+drop_absent i [] none = refl
+drop_absent i (x ∷ xs) none = by_test (drop_absent i xs) (same_item x.id i) refl none where
+  by_test : (state_of xs i ≡ None → drop_item i xs ≡ xs)
+      → (b : Bool) → same_item x.id i ≡ b → (if b then Some x.state else state_of xs i) ≡ None
+      → (if b then xs else x ∷ drop_item i xs) ≡ x ∷ xs
+  by_test rest true test n = absurd (cc)
+  by_test rest false test n = ap (λ (ys : List MemberItem). x ∷ ys) (rest n)
+
+-- one more of the ids has its item taken away
+pub drops_on : (drops : List ItemId) (j : ℕ) (i : ItemId) (xs ys all : List MemberItem)
+    → i ≡ get_or drops j i → j < length drops → ys ≡ drop_item i xs
+    → drop_all (drop j drops) xs ≡ all → drop_all (drop (j + 1) drops) ys ≡ all
+drops_on drops j i xs ys all is inside taken so_far =
+    rw taken (rw (opened drops j i is inside) at so_far)
+
 -- what is not below is not less
 pub past_from : (k u : ℕ) → (k < u → false ≡ true) → u ≤ k
 past_from k u never = elim (cases_lt k u) [
@@ -141,3 +175,8 @@ pub put_cells : (cells after : List Cell) (unit k : ℕ) (cell new : Cell) (done
     → after ≡ (if done then slice_set cells unit cell else cells) → done ≡ true → unit ≡ k → cell ≡ new
     → after ≡ slice_set cells k new
 put_cells cells after unit k cell new done put is same made = rw (is, same, made) at put
+
+-- a list of length 0 is empty
+pub no_items : {A : Type 0} (xs : List A) → length xs ≡ 0 → xs ≡ []
+no_items [] none = refl
+no_items (x ∷ xs) none = absurd (omega (arith, none))

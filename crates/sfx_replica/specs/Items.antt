@@ -1,10 +1,19 @@
 -- The list of a replica's items.
-use Rattle.std.specs.Prelude.{ℕ, zero, suc, if◌then◌else◌, List, [], ◌∷◌}
+use Rattle.std.specs.Prelude.{ℕ, zero, suc, Bool, ◌&&◌, if◌then◌else◌, List, [], ◌∷◌}
+use Rattle.sfx_ids.specs.declared.cut.Cut.{Cut}
+use Rattle.sfx_ids.specs.declared.cut.Cut.TheVariants.{At}
+use Rattle.sfx_ids.specs.Cut.{cut_le}
 use Rattle.sfx_ids.specs.declared.item_id.ItemId.{ItemId}
+use Rattle.sfx_knowledge.specs.Knowledge.{Known}
 use Rattle.sfx_model.specs.Members.{MemberItem}
+use Rattle.sfx_model.specs.Readings.{is_unseen}
 use Rattle.sfx_model.specs.States.{is_id_below}
 
 -- How many items stand before the place of one with this id: those at the front with a lower id.
 abbrev pub place_for : ItemId → List MemberItem → ℕ
 place_for i [] = zero
 place_for i (x ∷ xs) = if is_id_below x.id i then suc (place_for i xs) else zero
+
+-- The item's place is not before this one, and it has a unit whose version the knowledge does not contain.
+abbrev pub is_next_unseen : ℕ → Known → Cut → MemberItem → Bool
+is_next_unseen units known from x = cut_le from (At x.id) && is_unseen units known x

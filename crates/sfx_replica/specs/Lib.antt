@@ -3,3 +3,4 @@ pub mod Items
 pub mod Live
 pub mod Edits
 pub mod Refusals
+pub mod MemoryProvider

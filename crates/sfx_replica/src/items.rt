@@ -1,10 +1,11 @@
 //! The list of a replica's items, which are in order of their ids.
-ghost use Rattle.std.specs.Prelude.{◌≡◌, IfOk, OnOk, OnErr, option_map};
+ghost use Rattle.std.specs.Prelude.{◌≡◌, ◌+◌, ◌<◌, ◌≤◌, IfOk, OnOk, OnErr, option_map, vec_capacity, vec_len};
 ghost use Rattle.std.specs.List.{position_from};
 ghost use Rattle.sfx_model.specs.Events.{same_item};
 ghost use Rattle.sfx_model.specs.Items.{item_view, items_view};
 ghost use Rattle.sfx_model.specs.States.{cells_at, with_item};
 ghost use Rattle.sfx_model.specs.Readings.{first_from};
+ghost use Rattle.sfx_model.specs.Putting.{drop_all, drop_item, put_all, put_item};
 ghost use Rattle.sfx_replica.specs.Items.{place_for};
 
 use sfx_ids::{Cut, ItemId, Memory, Version};
@@ -51,10 +52,54 @@ fn place_for<const U: usize>(items: &[Item<U>], id: &ItemId) -> usize
 pub fn insert<const U: usize>(items: &mut Vec<Item<U>>, item: Item<U>) -> Result<(), Memory>
     ensures ok { OnOk result (items_view items.new.items ≡ with_item (item_view item.entry) (items_view items.old.items)) }
     ensures err { OnErr result (items.new.items ≡ items.old.items) }
+    ensures full { OnErr result (vec_capacity items.old ≤ vec_len items.old) }
+    ensures len { vec_len items.new ≤ vec_len items.old + 1 }
+    ensures capacity { vec_capacity items.old ≤ vec_capacity items.new }
 {
     let place = place_for(items.as_slice(), &item.id);
     items.insert(place, item)?;
     Ok(())
+}
+
+/// Puts each of these items in the place of that with its id, or in its place by id where there is none.
+pub fn put_all<const U: usize>(items: &mut Vec<Item<U>>, puts: Vec<Item<U>>)
+    requires room { vec_len items.old + vec_len puts ≤ vec_capacity items.old }
+    ensures { items_view items.new.items ≡ put_all (items_view puts.entry.items) (items_view items.old.items) }
+{
+    'puts: for item in puts {
+        put(items, item);
+    }
+}
+
+/// The same of one item.
+fn put<const U: usize>(items: &mut Vec<Item<U>>, item: Item<U>)
+    requires room { vec_len items.old < vec_capacity items.old }
+    ensures items { items_view items.new.items ≡ put_item (item_view item.entry) (items_view items.old.items) }
+    ensures len { vec_len items.new ≤ vec_len items.old + 1 }
+    ensures capacity { vec_capacity items.old ≤ vec_capacity items.new }
+{
+    match place_of(items.as_slice(), &item.id) {
+        Some(place) => items[place] = item,
+        None => insert(items, item).unwrap(),
+    }
+}
+
+/// Takes away each of the items with these ids.
+pub fn drop_all<const U: usize>(items: &mut Vec<Item<U>>, drops: &[ItemId])
+    ensures { items_view items.new.items ≡ drop_all drops.now (items_view items.old.items) }
+{
+    'drops: for id in drops {
+        take_away(items, id);
+    }
+}
+
+/// The same of one item.
+fn take_away<const U: usize>(items: &mut Vec<Item<U>>, id: &ItemId)
+    ensures { items_view items.new.items ≡ drop_item id.now (items_view items.old.items) }
+{
+    if let Some(place) = place_of(items.as_slice(), id) {
+        items.remove(place);
+    }
 }
 
 /// A cell for each value, all of one version.

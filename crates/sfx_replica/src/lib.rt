@@ -2,12 +2,17 @@
 #![tactic(auto)]
 
 pub use edit_fault::EditFault;
+pub use memory_provider::MemoryProvider;
 pub use replica::Replica;
 
 mod clashes;
 mod edit_fault;
 mod items;
 mod live;
+mod memory_provider;
+#[cfg(test)]
+mod provider_tests;
 mod replica;
 #[cfg(test)]
 mod tests;
+mod unseen;

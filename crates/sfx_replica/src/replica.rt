@@ -1,13 +1,15 @@
 ghost use Rattle.std.specs.Option.{option_copied, option_map, option_map_or};
-ghost use Rattle.std.specs.Prelude.{◌≡◌, ◌≤◌, ◌↔◌, if◌then◌else◌, nat_eq, Some, None, length, IsTrue, IfOk, OnOk, OnErr, IfSome};
+ghost use Rattle.std.specs.Prelude.{◌≡◌, ◌≤◌, ◌↔◌, if◌then◌else◌, nat_eq, Some, None, length, map, take, IsTrue, IfOk, OnOk, OnErr, IfSome};
 
 use crate::EditFault;
 use crate::clashes::{clashing, first_clash};
-use crate::items::{cells_at, first_from, insert, place_of};
+use crate::items::{cells_at, drop_all, first_from, insert, place_of, put_all};
 use crate::live::same_live;
+use crate::unseen::unseen;
 use sfx_ids::{Cut, ItemId, MAX_TICK, Memory, ReplicaId, Tick, UnitId, Version};
 use sfx_item::{Cell, Item, Name, NameFault, Row, State, Value};
 use sfx_knowledge::{Forgotten, Knowledge};
+use sfx_provider::{Commit, Head, copies};
 use std::alloc::Global;
 use std::marker::Model;
 
@@ -47,7 +49,10 @@ impl<const U: usize> Replica<U> {
     ghost use Rattle.sfx_model.specs.Replica.{ActsIn, RepresentsReplica};
     ghost use Rattle.sfx_model.specs.States.{created_contents, edited_contents, next_created, next_item, next_version};
     ghost use Rattle.sfx_model.specs.World.{WellFormed, World};
-    ghost use Rattle.sfx_model.specs.Readings.{clashing_with};
+    ghost use Rattle.sfx_model.specs.Readings.{clashing_with, unseen};
+    ghost use Rattle.sfx_provider.specs.Commit.{committed};
+    ghost use Rattle.sfx_provider.specs.Fits.{Fits};
+    ghost use Rattle.sfx_provider.specs.Head.{head_of};
     ghost use Rattle.sfx_replica.specs.Edits.{created, edited, new_member};
     ghost use Rattle.sfx_model.specs.Readings.{first_from};
     ghost use Rattle.sfx_replica.specs.Refusals.{Refuses, create_refusal, full_clock, name_refusal, or_next, set_refusal};
@@ -110,6 +115,21 @@ impl<const U: usize> Replica<U> {
         self.knowledge.with_own(alloc, &self.id, self.clock)
     }
 
+    /// All of the replica but its items.
+    ///
+    /// # Errors
+    /// `Memory`.
+    pub fn head(&self, alloc: Global) -> Result<Head<U>, Memory>
+        ensures { IfOk result (λ head. head ≡ head_of U self.now) }
+    {
+        Ok(Head {
+            id: self.id,
+            clock: self.clock,
+            knowledge: self.knowledge(alloc)?,
+            forgotten: self.forgotten.copy(alloc)?,
+        })
+    }
+
     /// Whether the replica's knowledge of the item's unit contains the version.
     pub fn knows(&self, id: &ItemId, unit: UnitId<U>, version: &Version) -> bool
         ensures { result ≡ contains self.now id.now unit.entry version.now }
@@ -157,6 +177,23 @@ impl<const U: usize> Replica<U> {
         ensures { IfOk result (λ ids. ids.items ≡ clashing_with name.now except self.now.items) }
     {
         Ok(clashing(alloc, self.items.as_slice(), name, except.as_ref())?)
+    }
+
+    /// The ids of the first `limit` items, from those whose place is not before `from`, with a unit whose
+    /// version the knowledge does not contain.
+    ///
+    /// # Errors
+    /// `Memory`.
+    pub fn unseen(
+        &self,
+        alloc: Global,
+        to: &Knowledge<U>,
+        from: &Cut,
+        limit: usize,
+    ) -> Result<Vec<ItemId>, Memory>
+        ensures { IfOk result (λ ids. ids.items ≡ map (λ x. x.id) (take limit (unseen U to.now from.now self.now.items))) }
+    {
+        Ok(unseen(alloc, self.items.as_slice(), to, from, limit)?)
     }
 
     /// Whether both replicas hold the same live items, with the same ids, versions and values.
@@ -228,6 +265,29 @@ impl<const U: usize> Replica<U> {
         row.put(alloc, unit, cell)?;
         self.clock += 1;
         Ok(version)
+    }
+
+    /// Changes the replica as the commit says: its clock, what it knows and what it has forgotten, and the
+    /// items that are put and dropped. All else stays.
+    ///
+    /// # Errors
+    /// `Memory`. Nothing has changed then.
+    pub fn install(&mut self, commit: &Commit<U>) -> Result<(), Memory>
+        requires fits { Fits U commit.now self.old }
+        ensures ok { OnOk result (self.new ≡ committed U commit.now self.old) }
+        ensures err { OnErr result (self.new ≡ self.old) }
+    {
+        let alloc = *self.items.allocator();
+        let knowledge = commit.knowledge.without_own(alloc, &self.id)?;
+        let forgotten = commit.forgotten.copy(alloc)?;
+        let puts = copies(alloc, commit.puts.as_slice())?;
+        self.items.reserve(puts.len())?;
+        put_all(&mut self.items, puts);
+        drop_all(&mut self.items, commit.drops.as_slice());
+        self.clock = commit.clock;
+        self.knowledge = knowledge;
+        self.forgotten = forgotten;
+        Ok(())
     }
 
     /// The cell that is written next to the unit of the item.

@@ -1,5 +1,5 @@
-use Rattle.sfx_provider.proofs.Commits.{commits_exact}
+use Rattle.sfx_provider.proofs.Commits.{commits_exact, stored}
 use Rattle.sfx_provider.proofs.laws.commits_are_exact.Goals as goal
 
 pub returns : goal.returns
-returns c = commits_exact
+returns c = λ units commit m good form fits. commits_exact units commit m good (stored units commit m good form) fits

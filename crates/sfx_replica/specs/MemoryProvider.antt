@@ -1,0 +1,52 @@
+-- A provider in memory, as plain data, and what a call does to it.
+use Rattle.std.specs.Prelude.{◌≡◌, ℕ, ◌<◌, ◌^◌, List, [], Contains, Result, Ok, Err, IsErrOf, ◌↔◌}
+use Rattle.sfx_model.specs.Consistent.{IsConsistent}
+use Rattle.sfx_model.specs.Members.{Member}
+use Rattle.sfx_outside.specs.Fault.{counted}
+use Rattle.sfx_provider.specs.Fault.{HasCause}
+use Rattle.sfx_provider.specs.declared.provider_fault.ProviderFault.{ProviderFault}
+use Rattle.sfx_provider.specs.declared.provider_fault.ProviderFault.TheVariants.{Failed, Memory}
+
+-- What a provider in memory is: the replica's state, the numbers of the calls that fail, counted from 1,
+-- and how many calls were made and how many failed.
+pub record ProviderState : Type 0 where
+  pub member : Member
+  pub fails : List ℕ
+  pub calls : ℕ
+  pub faults : ℕ
+
+-- A provider as the program has it: its state is consistent, its counts fit a `u64`, and where no call is to
+-- fail none has failed.
+pub record IsProvider (units : ℕ) (p : ProviderState) : Type 0 where
+  pub member : IsConsistent units p.member
+  pub calls : p.calls < 2 ^ 64
+  pub faults : p.faults < 2 ^ 64
+  pub quiet : p.fails ≡ [] → p.faults ≡ 0
+
+-- Both have the same list of calls that fail.
+abbrev pub FailAlike : ProviderState → ProviderState → Type 0
+FailAlike p q = q.fails ≡ p.fails
+
+-- The next call is one of those that fail.
+abbrev pub FailsNext : ProviderState → Type 0
+FailsNext p = Contains p.fails (counted p.calls)
+
+-- The count of faults after a call with this answer.
+abbrev pub faults_after : {T : Type 0} → ℕ → Result T ProviderFault → ℕ
+faults_after before (Ok x) = before
+faults_after before (Err Failed) = counted before
+faults_after before (Err Memory) = before
+
+-- What every call that counts does: it answers Failed exactly where it is one of those that fail; it is
+-- counted, and so is its fault, and the list of those that fail stays.
+pub record Counts {T : Type 0} (old new : ProviderState) (result : Result T ProviderFault) : Type 0 where
+  pub fails : IsErrOf result Failed ↔ FailsNext old
+  pub list : FailAlike old new
+  pub calls : new.calls ≡ counted old.calls
+  pub faults : new.faults ≡ faults_after old.faults result
+  pub cause : HasCause old.faults new.faults result
+
+-- What a call that reads does: the replica's state stays.
+pub record Reads {T : Type 0} (old new : ProviderState) (result : Result T ProviderFault) : Type 0 where
+  pub counts : Counts old new result
+  pub state : new.member ≡ old.member
