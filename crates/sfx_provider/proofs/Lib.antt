@@ -3,3 +3,4 @@ pub mod Drops
 pub mod Commits
 pub mod Walks
 pub mod Courses
+pub mod Heads

@@ -1,5 +1,6 @@
 ghost use Rattle.std.specs.Prelude.{◌≡◌, IfOk};
 
+use crate::Commit;
 use sfx_ids::{Memory, ReplicaId};
 use sfx_knowledge::{Forgotten, Knowledge};
 use std::alloc::Global;
@@ -24,6 +25,21 @@ impl<const U: usize> Model for Head<U> {
 }
 
 impl<const U: usize> Head<U> {
+    ghost use Rattle.sfx_provider.specs.Commit.{commit_of};
+
+    /// The commit that changes nothing of the replica with this head. Takes no memory.
+    pub fn into_commit(self, alloc: Global) -> Commit<U>
+        ensures { result ≡ commit_of self.entry }
+    {
+        Commit {
+            clock: self.clock,
+            knowledge: self.knowledge,
+            forgotten: self.forgotten,
+            puts: Vec::new(alloc),
+            drops: Vec::new(alloc),
+        }
+    }
+
     /// An equal head.
     ///
     /// # Errors

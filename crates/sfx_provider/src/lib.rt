@@ -4,7 +4,7 @@
 pub use commit::{Commit, copies};
 pub use committing::commit_all;
 pub use head::Head;
-pub use laws::{commits_are_exact, commits_keep_consistency, walks_list_items};
+pub use laws::{commits_are_exact, commits_keep_consistency, heads_are_commits, walks_list_items};
 pub use provider::Provider;
 pub use provider_fault::ProviderFault;
 pub use walking::all_items;

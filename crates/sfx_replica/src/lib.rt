@@ -10,6 +10,8 @@ mod edit_fault;
 mod items;
 mod live;
 mod memory_provider;
+#[cfg(test)]
+mod provider_tests;
 mod replica;
 #[cfg(test)]
 mod tests;

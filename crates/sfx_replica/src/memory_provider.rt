@@ -101,12 +101,7 @@ impl<const U: usize> Provider<U> for MemoryProvider<U> {
         ensures value { IfOk result (λ head. head ≡ head_of U self.old.member) }
     {
         self.begin()?;
-        Ok(Head {
-            id: self.replica.id(),
-            clock: self.replica.clock(),
-            knowledge: self.replica.knowledge(alloc)?,
-            forgotten: self.replica.forgotten().copy(alloc)?,
-        })
+        Ok(self.replica.head(alloc)?)
     }
 
     fn item(&mut self, alloc: Global, id: &ItemId) -> Result<Option<Item<U>>, ProviderFault>
@@ -170,10 +165,7 @@ impl<const U: usize> Provider<U> for MemoryProvider<U> {
 }
 
 /// A copy of the item, where there is one.
-fn copy_of<const U: usize>(
-    alloc: Global,
-    item: Option<&Item<U>>,
-) -> Result<Option<Item<U>>, Memory>
+fn copy_of<const U: usize>(alloc: Global, item: Option<&Item<U>>) -> Result<Option<Item<U>>, Memory>
     ensures { IfOk result (λ copy. copy ≡ option_map (λ x. x.now) item.entry) }
 {
     match item {

@@ -9,7 +9,7 @@ use crate::unseen::unseen;
 use sfx_ids::{Cut, ItemId, MAX_TICK, Memory, ReplicaId, Tick, UnitId, Version};
 use sfx_item::{Cell, Item, Name, NameFault, Row, State, Value};
 use sfx_knowledge::{Forgotten, Knowledge};
-use sfx_provider::{Commit, copies};
+use sfx_provider::{Commit, Head, copies};
 use std::alloc::Global;
 use std::marker::Model;
 
@@ -52,6 +52,7 @@ impl<const U: usize> Replica<U> {
     ghost use Rattle.sfx_model.specs.Readings.{clashing_with, unseen};
     ghost use Rattle.sfx_provider.specs.Commit.{committed};
     ghost use Rattle.sfx_provider.specs.Fits.{Fits};
+    ghost use Rattle.sfx_provider.specs.Head.{head_of};
     ghost use Rattle.sfx_replica.specs.Edits.{created, edited, new_member};
     ghost use Rattle.sfx_model.specs.Readings.{first_from};
     ghost use Rattle.sfx_replica.specs.Refusals.{Refuses, create_refusal, full_clock, name_refusal, or_next, set_refusal};
@@ -112,6 +113,21 @@ impl<const U: usize> Replica<U> {
         ensures form { IfOk result (λ k. IsKnowledge U k) }
     {
         self.knowledge.with_own(alloc, &self.id, self.clock)
+    }
+
+    /// All of the replica but its items.
+    ///
+    /// # Errors
+    /// `Memory`.
+    pub fn head(&self, alloc: Global) -> Result<Head<U>, Memory>
+        ensures { IfOk result (λ head. head ≡ head_of U self.now) }
+    {
+        Ok(Head {
+            id: self.id,
+            clock: self.clock,
+            knowledge: self.knowledge(alloc)?,
+            forgotten: self.forgotten.copy(alloc)?,
+        })
     }
 
     /// Whether the replica's knowledge of the item's unit contains the version.

@@ -9,7 +9,7 @@ use std::alloc::{AllocError, Global};
 use std::process::Abort;
 use std::test::Fail;
 
-fn value(alloc: Global, text: &str) -> Result<Value, AllocError> {
+pub fn value(alloc: Global, text: &str) -> Result<Value, AllocError> {
     Ok(Value::new(Vec::from_slice(alloc, text.as_bytes())?))
 }
 
@@ -36,7 +36,7 @@ fn tick(rt: &impl Abort, count: u64) -> Tick {
     Tick::new(count).expect(rt, "a tick")
 }
 
-fn item_id(rt: &impl Abort, count: u64, replica: u128) -> ItemId {
+pub fn item_id(rt: &impl Abort, count: u64, replica: u128) -> ItemId {
     ItemId {
         tick: tick(rt, count),
         replica: ReplicaId::new(replica),
@@ -118,7 +118,7 @@ fn refuses_creation(rt: HostRuntime) -> Result<(), Fail> {
 }
 
 /// A replica that created `a` and `b/c`, with two units each.
-fn pair(alloc: Global, id: u128) -> Result<Replica<2>, EditFault> {
+pub fn pair(alloc: Global, id: u128) -> Result<Replica<2>, EditFault> {
     let mut replica = Replica::<2>::new(alloc, ReplicaId::new(id))?;
     replica.create(two(alloc, "a", "1")?)?;
     replica.create(two(alloc, "b/c", "2")?)?;
@@ -246,7 +246,7 @@ fn finds_items(rt: HostRuntime) -> Result<(), Fail> {
     Ok(())
 }
 
-fn name(alloc: Global, text: &str) -> Result<Name, EditFault> {
+pub fn name(alloc: Global, text: &str) -> Result<Name, EditFault> {
     match Name::read(alloc, text.as_bytes()) {
         Ok(name) => Ok(name),
         Err(_) => Err(EditFault::BadName(0)),

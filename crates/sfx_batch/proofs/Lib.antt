@@ -1,0 +1,4 @@
+pub mod Taking
+pub mod Lists
+pub mod Listing
+pub mod Due

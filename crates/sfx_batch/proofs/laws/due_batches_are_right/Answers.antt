@@ -1,0 +1,5 @@
+use Rattle.sfx_batch.proofs.Due.{batch_is}
+use Rattle.sfx_batch.proofs.laws.due_batches_are_right.Goals as goal
+
+pub returns : goal.returns
+returns c = batch_is

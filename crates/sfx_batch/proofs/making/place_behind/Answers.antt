@@ -1,0 +1,7 @@
+use Rattle.std.proofs.Common.{sym}
+use Rattle.sfx_batch.proofs.Taking.{behind_last}
+use Rattle.sfx_batch.proofs.making.place_behind.Goals as goal
+use Rattle.sfx_ids.specs.declared.cut.Cut.TheVariants.{End}
+
+pub returns-in-Some : goal.returns-in-Some
+returns-in-Some g c = sym (behind_last End c.args.items.now c.in-Some.item.now (sym c.in-Some.ensures.value))
