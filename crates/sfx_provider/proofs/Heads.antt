@@ -22,7 +22,7 @@ use Rattle.sfx_provider.specs.Head.{head_of}
 use Rattle.sfx_provider.proofs.Drops.{drops_gone, drops_others}
 
 -- The ticks of the head's knowledge: the clock is laid over.
-head_ticks : (units : ℕ) (m : Member) → IsConsistent units m → HasTicks units (head_of units m).knowledge (laid_over m.id m.clock (tick_at m.knowledge))
+pub head_ticks : (units : ℕ) (m : Member) → IsConsistent units m → HasTicks units (head_of units m).knowledge (laid_over m.id m.clock (tick_at m.knowledge))
 head_ticks units m good = ticks-with_own units m.id m.clock m.knowledge good.knowledge good.clock good.id
 
 -- What is left to show of a commit that has all but the items from the head.
