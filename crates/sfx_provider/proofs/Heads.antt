@@ -12,12 +12,13 @@ use Rattle.sfx_knowledge.proofs.Known.{one_knowledge}
 use Rattle.sfx_knowledge.proofs.Making.{IsKnowledge-with_own, ticks-with_own}
 use Rattle.sfx_model.specs.Consistent.{AreApart, IsConsistent, live_name}
 use Rattle.sfx_model.specs.Events.{same_item}
-use Rattle.sfx_model.specs.Members.{ItemState, Member, MemberItem, AreRising, state_of}
+use Rattle.sfx_model.specs.Members.{ItemState, Member, MemberItem, AreIdsRising, AreRising, state_of}
 use Rattle.sfx_model.specs.Sets.{Has}
 use Rattle.sfx_model.proofs.Rising.{before_differs, ids_compared}
 use Rattle.sfx_model.proofs.Steps.{same_item_is}
-use Rattle.sfx_provider.specs.Commit.{commit_of, committed, drop_all, drop_item, put_all, put_item}
-use Rattle.sfx_provider.specs.Fits.{AreIdsRising, Fits, IsKnownItem}
+use Rattle.sfx_model.specs.Putting.{drop_all, drop_item, put_all, put_item}
+use Rattle.sfx_provider.specs.Commit.{commit_of, committed}
+use Rattle.sfx_provider.specs.Fits.{Fits, IsKnownItem}
 use Rattle.sfx_provider.specs.Head.{head_of}
 use Rattle.sfx_provider.proofs.Drops.{drops_gone, drops_others}
 

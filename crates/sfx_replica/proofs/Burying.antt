@@ -10,7 +10,8 @@ use Rattle.sfx_model.specs.Events.{same_item}
 use Rattle.sfx_model.specs.Members.{ItemState, Dead, Member, MemberItem, state_of}
 use Rattle.sfx_model.proofs.Steps.{same_item_is, same_item_self}
 use Rattle.std.specs.Prelude.{IsSome}
-use Rattle.sfx_provider.specs.Commit.{CommitData, commit_of, put_item}
+use Rattle.sfx_model.specs.Putting.{put_item}
+use Rattle.sfx_provider.specs.Commit.{CommitData, commit_of}
 use Rattle.sfx_provider.specs.Course.{AllFit}
 use Rattle.sfx_provider.specs.Fits.{Fits, IsKnownItem}
 use Rattle.sfx_provider.specs.Head.{head_of}
