@@ -10,3 +10,5 @@ mod batch;
 mod batch_fault;
 mod laws;
 mod making;
+#[cfg(test)]
+mod tests;
