@@ -35,3 +35,8 @@ pub mod Staying
 pub mod Learned
 pub mod Storing
 pub mod Forgetting
+pub mod PerUnit
+pub mod Putting
+pub mod Comparing
+pub mod Shaping
+pub mod Fitting

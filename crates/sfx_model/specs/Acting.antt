@@ -1,0 +1,41 @@
+-- What is asked of a member that takes part in sessions, and what is said of events that it does one after
+-- another.
+use Rattle.std.specs.Prelude.{◌≡◌, ℕ, ◌<◌, ◌≤◌, ◌^◌, List}
+use Rattle.sfx_ids.specs.declared.cut.Cut.TheVariants.{Start, End}
+use Rattle.sfx_ids.specs.Tick.{max_tick}
+use Rattle.sfx_vector.specs.Clocks.{tick_of}
+use Rattle.sfx_knowledge.specs.Knowledge.{IsKnowledge}
+use Rattle.sfx_knowledge.specs.Forgotten.{AreForgets, fvec}
+use Rattle.sfx_model.specs.Batch.{Batch}
+use Rattle.sfx_model.specs.Consistent.{AreApart}
+use Rattle.sfx_model.specs.Events.{Event, AllLegal, after_all}
+use Rattle.sfx_model.specs.Members.{Member, AreRising, shown}
+use Rattle.sfx_model.specs.Replica.{RepresentsReplica}
+use Rattle.sfx_model.specs.Results.{BacksForgotten}
+use Rattle.sfx_model.specs.World.{Snapshot, World, WellFormed}
+
+-- The lists of the member are in order: id and clock are in range, what it knows and has forgotten stands
+-- in its one form, its items are in order of their ids, and its live names do not clash.
+pub record IsOrderly (units : ℕ) (m : Member) : Type 0 where
+  pub some : 1 ≤ units
+  pub id : m.id < 2 ^ 128
+  pub clock : m.clock ≤ max_tick
+  pub knowledge : IsKnowledge units m.knowledge
+  pub forgotten : AreForgets m.forgotten
+  pub rising : AreRising m.items
+  pub names : AreApart m.items
+
+-- What comes with a batch beside its items: made-with knowledge in its one form, and the snapshot's
+-- forgotten deletions in theirs.
+pub record Supplies (w : World) (snapshot : Snapshot) (b : Batch) : Type 0 where
+  pub made_with : IsKnowledge w.units b.made_with
+  pub forgotten : AreForgets b.forgotten
+  pub same : BacksForgotten w snapshot Start End (λ place r. tick_of (fvec b.forgotten place) r)
+
+-- The events may happen one after another in the world, and the world after them is well-formed; there the
+-- replica with this id has a site that the member represents, and the member's lists are in order.
+pub record AllActIn (w : World) (events : List Event) (r : ℕ) (m : Member) : Type 0 where
+  pub legal : AllLegal w events
+  pub well_formed : WellFormed (after_all w events)
+  pub represents : RepresentsReplica (after_all w events) r (shown m)
+  pub orderly : IsOrderly w.units m
