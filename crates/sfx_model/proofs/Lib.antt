@@ -40,3 +40,4 @@ pub mod Putting
 pub mod Comparing
 pub mod Shaping
 pub mod Fitting
+pub mod Drafted
