@@ -41,3 +41,5 @@ pub mod Comparing
 pub mod Shaping
 pub mod Fitting
 pub mod Drafted
+pub mod Clashing
+pub mod Stepping
