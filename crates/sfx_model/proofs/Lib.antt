@@ -43,3 +43,4 @@ pub mod Fitting
 pub mod Drafted
 pub mod Clashing
 pub mod Stepping
+pub mod Applying
