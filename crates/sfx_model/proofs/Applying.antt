@@ -37,6 +37,7 @@ use Rattle.sfx_model.proofs.Drafted.{draft_legal, draft_result, stamps_listed, s
 use Rattle.sfx_model.proofs.Fitting.{Fits}
 use Rattle.sfx_model.proofs.Forgetting.{forgot_all, forgets_form}
 use Rattle.sfx_model.proofs.Learned.{learned_item, forgot_both}
+use Rattle.sfx_model.proofs.Naming.{AreOnce}
 use Rattle.sfx_model.proofs.Putting.{state_given, state_kept, rising_given, put_there}
 use Rattle.sfx_model.proofs.Replicas.{forget_replica, apply_replica}
 use Rattle.sfx_model.proofs.Shaping.{cells_held}
@@ -214,13 +215,9 @@ other_acts w m i (Some name) ok stands rising room some (cells, live) =
     (rise_to w.units m i (Some name) (Live (cells_with m cells 0 name)) (Live cells) rising live
     (ap (option_map (renamed_state (next_version m) name)) live))
 
--- The other items are live, and none is listed twice.
+-- The other items are live.
 pub record AreWaiting (m : Member) (js : List ItemId) : Type 0 where
   pub live : (j : ItemId) → Has j js → IsLiveAmong m j
-
-abbrev pub AreOnce : List ItemId → Type 0
-AreOnce [] = Unit {0}
-AreOnce (j ∷ js) = ((k : ItemId) → Has k js → j ≢ k) × AreOnce js
 
 -- The events of the other items, one after another.
 pub record OthersAct (w : World) (es : List Event) (m n : Member) : Type 0 where

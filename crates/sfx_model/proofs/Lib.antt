@@ -43,4 +43,5 @@ pub mod Fitting
 pub mod Drafted
 pub mod Clashing
 pub mod Stepping
+pub mod Naming
 pub mod Applying
