@@ -50,7 +50,7 @@ live_one w x i o ok held (cells, is) =
     live_holding w x i cells ok (subst (λ (p : Option ItemState). ItemRepresents w.units w.records i (holding x i) p) is held)
 
 -- The mark with its content, where the mark is known.
-mark_is : (units : ℕ) (d : Draft) (k : Mark) (u : ℕ) → HaveMark units d k → u < units → marks_in d u ≡ mark_with k (content_in d.values u)
+pub mark_is : (units : ℕ) (d : Draft) (k : Mark) (u : ℕ) → HaveMark units d k → u < units → marks_in d u ≡ mark_with k (content_in d.values u)
 mark_is units d k u all small = ap (λ (x : Mark). mark_with x (content_in d.values u)) (all u small)
 
 content_none : (d : Draft) (u : ℕ) → d.values ≡ None → content_in d.values u ≡ Deleted
@@ -143,11 +143,11 @@ draft_legal w s snapshot i v seen here d ok sound there held (shaped, fits) stam
 -- ---- the state afterwards
 
 -- No mark of the draft passes a test that its mark fails.
-none_pass : (units : ℕ) (d : Draft) (k : Mark) (test : Mark → Bool) → length d.marks ≡ units → HaveMark units d k → test k ≡ false → list_any test d.marks ≡ false
+pub none_pass : (units : ℕ) (d : Draft) (k : Mark) (test : Mark → Bool) → length d.marks ≡ units → HaveMark units d k → test k ≡ false → list_any test d.marks ≡ false
 none_pass units d k test long all fails =
     any_none test d.marks Stays (λ u small. ap test (all u (omega (arith, long))) ∙ fails)
 
-one_passes : (units : ℕ) (d : Draft) (k : Mark) (test : Mark → Bool) → length d.marks ≡ units → 1 ≤ units → HaveMark units d k → test k ≡ true → list_any test d.marks ≡ true
+pub one_passes : (units : ℕ) (d : Draft) (k : Mark) (test : Mark → Bool) → length d.marks ≡ units → 1 ≤ units → HaveMark units d k → test k ≡ true → list_any test d.marks ≡ true
 one_passes units d k test long some all passes =
     any_at test d.marks 0 Stays (omega (arith, long)) (ap test (all 0 some) ∙ passes)
 
@@ -157,7 +157,7 @@ cell_listed None u = refl
 cell_listed (Some (Live cells)) u = refl
 cell_listed (Some (Dead v)) u = refl
 
-listed_at : (o : Option ItemState) (u : ℕ) (c : Cell) → cell_at o u ≡ Some c → at_unit (cells_of o) u no_cell ≡ c
+pub listed_at : (o : Option ItemState) (u : ℕ) (c : Cell) → cell_at o u ≡ Some c → at_unit (cells_of o) u no_cell ≡ c
 listed_at o u c is = at_get (cells_of o) u c no_cell (sym (cell_listed o u) ∙ is)
 
 -- The cell of a unit of a live result.

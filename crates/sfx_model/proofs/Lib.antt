@@ -44,4 +44,5 @@ pub mod Drafted
 pub mod Clashing
 pub mod Stepping
 pub mod Naming
+pub mod Planning
 pub mod Applying

@@ -27,7 +27,7 @@ pub record IsNamed (items : List MemberItem) (j : ItemId) (name : List ℕ) : Ty
   pub there : state_of items j ≡ Some state
   pub live : live_name state ≡ Some name
 
-named_cells : (items : List MemberItem) (j : ItemId) (name : List ℕ) → IsNamed items j name → (cells : List Cell) × (state_of items j ≡ Some (Live cells))
+pub named_cells : (items : List MemberItem) (j : ItemId) (name : List ℕ) → IsNamed items j name → (cells : List Cell) × (state_of items j ≡ Some (Live cells))
 named_cells items j name is = by_state is.state is.there is.live
   where
     by_state : (state : ItemState) → state_of items j ≡ Some state → live_name state ≡ Some name → (cells : List Cell) × (state_of items j ≡ Some (Live cells))
@@ -183,7 +183,7 @@ named_before : (i : ItemId) (old new : List MemberItem) (j : ItemId) (name : Lis
 named_before i old new j name keeps other is =
     record { state = is.state; there = sym (keeps j other) ∙ is.there; live = is.live }
 
-one_name : (items : List MemberItem) (j : ItemId) (a b : List ℕ) → IsNamed items j a → IsNamed items j b → a ≡ b
+pub one_name : (items : List MemberItem) (j : ItemId) (a b : List ℕ) → IsNamed items j a → IsNamed items j b → a ≡ b
 one_name items j a b first second =
     let states : Some first.state ≡ Some second.state = sym first.there ∙ second.there in
     let same : first.state ≡ second.state = cc in
