@@ -46,3 +46,4 @@ pub mod Stepping
 pub mod Naming
 pub mod Planning
 pub mod Applying
+pub mod Tasking

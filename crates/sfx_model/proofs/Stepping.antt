@@ -1,17 +1,17 @@
 -- Events that one replica does at its own site, one after another.
-use Rattle.std.proofs.Common.{◌≡◌, ◌≢◌, ℕ, Bool, List, [], ◌∷◌, ◌++◌, Option, Some, None, IsSomeAnd, inl, inr, refl, sym, ◌∙◌, ap, subst}
+use Rattle.std.proofs.Common.{◌≡◌, ◌≢◌, ℕ, ◌≤◌, Bool, List, [], ◌∷◌, ◌++◌, Option, Some, None, IsSomeAnd, inl, inr, refl, sym, ◌∙◌, ap, subst, le_refl, le_trans}
 use Rattle.sfx_ids.specs.declared.cut.Cut.{Cut}
 use Rattle.sfx_ids.specs.declared.item_id.ItemId.{ItemId}
 use Rattle.sfx_ids.specs.declared.version.Version.{Version}
 use Rattle.sfx_model.specs.Sets.{Has, IsPart}
 use Rattle.sfx_model.specs.World.{Record, World, Site, Snapshot, WellFormed}
 use Rattle.sfx_model.specs.Events.{Event, Units, Widen, Join, Make, Clean, Forget, Apply, Learn, site_of, put_site, at_site, after, Legal, AllLegal, after_all, recorded, site_made, site_cleaned, site_forgot, site_applied, site_learned, made, cleaned, forgot, applied, learned, MakeLegal, CleanLegal, ApplyLegal, LearnLegal}
-use Rattle.sfx_model.specs.Members.{ItemState, Shown}
+use Rattle.sfx_model.specs.Members.{ItemState, Shown, clock_of}
 use Rattle.sfx_model.specs.Replica.{IsOfOthers, RepresentsReplica}
 use Rattle.sfx_model.specs.Snapshots.{KeepsUnits, Carried}
 use Rattle.sfx_model.specs.States.{IsOf}
 use Rattle.sfx_model.proofs.Words.{Step}
-use Rattle.sfx_model.proofs.Sites.{found, other_found}
+use Rattle.sfx_model.proofs.Sites.{found, other_found, clock_grows}
 use Rattle.sfx_model.proofs.Making.{make_step}
 use Rattle.sfx_model.proofs.Learning.{clean_step, forget_step, learn_step}
 use Rattle.sfx_model.proofs.Entering.{entry_records, entry_step}
@@ -70,6 +70,14 @@ pub site_kept : (w x : World) (r q : ℕ) → IsStep w x r → r ≢ q → site_
 site_kept w x r q step other =
     ap (λ (y : World). site_of y.sites q) step.is
     ∙ other_found w.sites step.new q (λ same. other (sym (step.step.follows.id ∙ (found w.sites r step.old step.at).1) ∙ same))
+
+-- No clock falls.
+pub clocks_kept : (w x : World) (r q : ℕ) → IsStep w x r → clock_of w.sites q ≤ clock_of x.sites q
+clocks_kept w x r q step =
+    let there : site_of w.sites step.new.id ≡ Some step.old =
+    subst (λ (n : ℕ). site_of w.sites n ≡ Some step.old) (sym (step.step.follows.id ∙ (found w.sites r step.old step.at).1)) step.at in
+    subst (λ (y : World). clock_of w.sites q ≤ clock_of y.sites q) (sym step.is)
+    (clock_grows w.sites step.new step.old q there step.step.follows.clock)
 
 -- The replica's site knows what it knew.
 pub record Knows (w x : World) (r : ℕ) : Type 0 where
@@ -136,13 +144,14 @@ pub legal_append : (w : World) (es fs : List Event) → AllLegal w es → AllLeg
 legal_append w [] fs first second = second
 legal_append w (e ∷ es) fs first second = (first.0, legal_append (after w e) es fs first.1 second)
 
--- What such events leave: the world well-formed, with its unit count; the sites of others; what is known;
--- the members of others; and snapshots that are carried along.
+-- What such events leave: the world well-formed, with its unit count; the sites of others; what is known,
+-- and clocks; the members of others; and snapshots that are carried along.
 pub record Leaves (w x : World) (r : ℕ) : Type 0 where
   pub ok : WellFormed x
   pub count : x.units ≡ w.units
   pub sites : (q : ℕ) → r ≢ q → site_of x.sites q ≡ site_of w.sites q
   pub knows : Knows w x r
+  pub clocks : (q : ℕ) → clock_of w.sites q ≤ clock_of x.sites q
   pub others : (q : ℕ) (m : Shown) → r ≢ q → RepresentsReplica w q m → RepresentsReplica x q m
   pub carried : (snapshot : Snapshot) (i : ItemId) (made_with : Cut → ℕ → ℕ → ℕ) (seen : Option ItemState) → Carried w snapshot i made_with seen → Carried x snapshot i made_with seen
 
@@ -152,6 +161,7 @@ leaves_self w r ok = record {
   count = refl;
   sites = λ q other. refl;
   knows = knows_self w r;
+  clocks = λ q. le_refl (clock_of w.sites q);
   others = λ q m other stands. stands;
   carried = λ snapshot i made_with seen carried. carried;
 }
@@ -162,6 +172,7 @@ leaves_on w x y r first second = record {
   count = second.count ∙ first.count;
   sites = λ q other. second.sites q other ∙ first.sites q other;
   knows = knows_on w x y r first.knows second.knows;
+  clocks = λ q. le_trans (first.clocks q) (second.clocks q);
   others = λ q m other stands. second.others q m other (first.others q m other stands);
   carried = λ snapshot i made_with seen carried. second.carried snapshot i made_with seen (first.carried snapshot i made_with seen carried);
 }
@@ -174,6 +185,7 @@ event_leaves w e r ok legal of =
       count = count_kept w (after w e) r step;
       sites = λ q other. site_kept w (after w e) r q step other;
       knows = step_knows w (after w e) r step;
+      clocks = λ q. clocks_kept w (after w e) r q step;
       others = λ q m other stands. others_stand w e q m ok legal (of_others e r q of other) stands;
       carried = λ snapshot i made_with seen carried. carried_stays w e snapshot i made_with seen ok legal (of_keeps e r of) carried;
     }
