@@ -47,3 +47,4 @@ pub mod Naming
 pub mod Planning
 pub mod Applying
 pub mod Tasking
+pub mod NewNames
