@@ -44,7 +44,8 @@ pub mod Drafted
 pub mod Clashing
 pub mod Stepping
 pub mod Naming
+pub mod NewNames
+pub mod Counting
 pub mod Planning
 pub mod Applying
 pub mod Tasking
-pub mod NewNames
