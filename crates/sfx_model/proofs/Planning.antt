@@ -7,6 +7,7 @@ use Rattle.std.specs.Option.{option_map, option_and_then}
 use Rattle.std.proofs.lemmas.Option.{slice_get_cases}
 use Rattle.sfx_ids.specs.declared.item_id.ItemId.{ItemId}
 use Rattle.sfx_ids.specs.declared.version.Version.{Version}
+use Rattle.sfx_ids.specs.ItemId.{IsItemId}
 use Rattle.sfx_item.specs.declared.cell.Cell.{Cell}
 use Rattle.sfx_item.specs.Decided.{is_clash}
 use Rattle.sfx_item.specs.Row.{first_value}
@@ -32,6 +33,7 @@ use Rattle.sfx_model.proofs.Putting.{state_given, state_kept, rising_given}
 use Rattle.sfx_model.proofs.Shaping.{HaveMark, IsLiveUnit, IsLiveDraft, Shape, KeepsAll, LeavesAll, DropsAll, DeletesAll, TakesDead, MakesLive, IsShaped, marked_long, marked_have}
 use Rattle.sfx_model.proofs.Drafted.{none_pass, one_passes, listed_at}
 use Rattle.sfx_model.proofs.Clashing.{no_name, stamped_name}
+use Rattle.sfx_model.proofs.Counting.{AreIds, names_free, ids_given}
 use Rattle.sfx_model.proofs.Naming.{IsNamed, IsClashing, IsFree, AreOnce, AreApartBut, KeepItems, clash_listed, clash_lists, clash_once, apart_all, apart_tests, apart_changed, apart_other, one_name, named_cells}
 
 -- ---- the name of the state afterwards
@@ -167,10 +169,6 @@ after_named units v d seen here state name some shaped is live = by_case (after_
 abbrev pub with_drafted : ℕ → Version → ItemId → Option ItemState → Draft → List MemberItem → List MemberItem
 with_drafted units v i seen d items = with_state_of i (state_after units v d seen (state_of items i)) items
 
--- New names are free.
-abbrev pub NewNamesAreFree : Type 0
-NewNamesAreFree = (items : List MemberItem) (i : ItemId) (name : List ℕ) → IsFree items i (new_name items i name)
-
 drafted_apart :
     (units : ℕ) (v : Version) (i : ItemId) (seen : Option ItemState) (d : Draft) (items : List MemberItem) (js : List ItemId)
     → 1 ≤ units → AreRising items → AreApart items → IsShaped units seen (state_of items i) d
@@ -220,40 +218,40 @@ new_drafted units d old new name was is = by_values d.values refl was is
 -- Names after the plan's draft are apart, but for the others that it changes.
 rule_apart :
     (units : ℕ) (v : Version) (i : ItemId) (seen : Option ItemState) (d : Draft) (rule : ClashRule) (items : List MemberItem) (name : List ℕ) (js : List ItemId)
-    → NewNamesAreFree → 1 ≤ units → AreRising items → AreApart items → IsShaped units seen (state_of items i) d
+    → AreIds items → 1 ≤ units → AreRising items → AreApart items → IsShaped units seen (state_of items i) d
     → IsShaped units seen (state_of items i) (plan_among units rule i items name js d).draft
     → drafted_name d ≡ Some name → clashing_with name (Some i) items ≡ js
     → AreApartBut i (plan_among units rule i items name js d).others (with_drafted units v i seen (plan_among units rule i items name js d).draft items)
-rule_apart units v i seen d rule items name [] free some rising apart shaped planned named listed =
+rule_apart units v i seen d rule items name [] ids some rising apart shaped planned named listed =
     drafted_apart units v i seen d items [] some rising apart shaped (λ x drafted k own other is out.
     subst (λ (n : List ℕ). is_clash n own ≡ false) (same_name d name x named drafted)
     (unlisted_free items i name [] k own listed other is out))
-rule_apart units v i seen d Source items name (j ∷ js) free some rising apart shaped planned named listed =
+rule_apart units v i seen d Source items name (j ∷ js) ids some rising apart shaped planned named listed =
     drafted_apart units v i seen d items (j ∷ js) some rising apart shaped (λ x drafted k own other is out.
     subst (λ (n : List ℕ). is_clash n own ≡ false) (same_name d name x named drafted)
     (unlisted_free items i name (j ∷ js) k own listed other is out))
-rule_apart units v i seen d RenameDestination items name (j ∷ js) free some rising apart shaped planned named listed =
+rule_apart units v i seen d RenameDestination items name (j ∷ js) ids some rising apart shaped planned named listed =
     drafted_apart units v i seen d items (j ∷ js) some rising apart shaped (λ x drafted k own other is out.
     subst (λ (n : List ℕ). is_clash n own ≡ false) (same_name d name x named drafted)
     (unlisted_free items i name (j ∷ js) k own listed other is out))
-rule_apart units v i seen d Destination items name (j ∷ js) free some rising apart shaped planned named listed =
+rule_apart units v i seen d Destination items name (j ∷ js) ids some rising apart shaped planned named listed =
     drafted_apart units v i seen (clash_draft units Destination d) items [] some rising apart planned
     (λ x drafted k own other is out. let bad : None ≡ Some x = drafted in absurd (cc))
-rule_apart units v i seen d Skip items name (j ∷ js) free some rising apart shaped planned named listed =
+rule_apart units v i seen d Skip items name (j ∷ js) ids some rising apart shaped planned named listed =
     drafted_apart units v i seen (clash_draft units Skip d) items [] some rising apart planned
     (λ x drafted k own other is out. let bad : None ≡ Some x = drafted in absurd (cc))
-rule_apart units v i seen d RenameSource items name (j ∷ js) free some rising apart shaped planned named listed =
+rule_apart units v i seen d RenameSource items name (j ∷ js) ids some rising apart shaped planned named listed =
     drafted_apart units v i seen (stamped_name units (new_name items i name) d) items [] some rising apart planned
     (λ x drafted k own other is out.
     subst (λ (n : List ℕ). is_clash n own ≡ false) (new_drafted units d name (new_name items i name) x named drafted)
-    (free items i name k own other is))
+    (names_free items i name rising ids k own other is))
 
 pub plan_apart :
     (units : ℕ) (v : Version) (i : ItemId) (seen : Option ItemState) (d : Draft) (rule : ClashRule) (items : List MemberItem)
-    → NewNamesAreFree → 1 ≤ units → AreRising items → AreApart items → IsShaped units seen (state_of items i) d
+    → AreIds items → 1 ≤ units → AreRising items → AreApart items → IsShaped units seen (state_of items i) d
     → IsShaped units seen (state_of items i) (plan_of units rule i items d).draft
     → AreApartBut i (plan_of units rule i items d).others (with_drafted units v i seen (plan_of units rule i items d).draft items)
-plan_apart units v i seen d rule items free some rising apart shaped planned = by_name (drafted_name d) refl planned
+plan_apart units v i seen d rule items ids some rising apart shaped planned = by_name (drafted_name d) refl planned
   where
     by_name :
         (o : Option (List ℕ))
@@ -263,7 +261,7 @@ plan_apart units v i seen d rule items free some rising apart shaped planned = b
         drafted_apart units v i seen d items [] some rising apart shaped
         (λ x drafted k own other is out. let bad : None ≡ Some x = sym e ∙ drafted in absurd (cc))
     by_name (Some name) e fits =
-        rule_apart units v i seen d rule items name (clashing_with name (Some i) items) free some rising apart shaped fits e refl
+        rule_apart units v i seen d rule items name (clashing_with name (Some i) items) ids some rising apart shaped fits e refl
 
 -- ---- the other items
 
@@ -314,21 +312,22 @@ plan_once units rule i items d rising = by_name (drafted_name d)
 -- A name that a rule gives is free.
 given_free :
     (rule : ClashRule) (items : List MemberItem) (j : ItemId) (o : Option (List ℕ)) (new : List ℕ)
-    → NewNamesAreFree → option_and_then (other_name rule items j) o ≡ Some new → IsFree items j new
-given_free rule items j None new free is = absurd (cc)
-given_free Source items j (Some name) new free is = absurd (cc)
-given_free Destination items j (Some name) new free is = absurd (cc)
-given_free RenameSource items j (Some name) new free is = absurd (cc)
-given_free Skip items j (Some name) new free is = absurd (cc)
-given_free RenameDestination items j (Some name) new free is =
+    → AreRising items → AreIds items → option_and_then (other_name rule items j) o ≡ Some new → IsFree items j new
+given_free rule items j None new rising ids is = absurd (cc)
+given_free Source items j (Some name) new rising ids is = absurd (cc)
+given_free Destination items j (Some name) new rising ids is = absurd (cc)
+given_free RenameSource items j (Some name) new rising ids is = absurd (cc)
+given_free Skip items j (Some name) new rising ids is = absurd (cc)
+given_free RenameDestination items j (Some name) new rising ids is =
     let same : new_name items j name ≡ new = let both : Some (new_name items j name) ≡ Some new = is in cc in
-    subst (λ (n : List ℕ). IsFree items j n) same (free items j name)
+    subst (λ (n : List ℕ). IsFree items j n) same (names_free items j name rising ids)
 
 pub name_free :
     (rule : Option ClashRule) (items : List MemberItem) (j : ItemId) (new : List ℕ)
-    → NewNamesAreFree → name_given rule items j ≡ Some new → IsFree items j new
-name_free None items j new free is = absurd (cc)
-name_free (Some rule) items j new free is = given_free rule items j (option_and_then live_name (state_of items j)) new free is
+    → AreRising items → AreIds items → name_given rule items j ≡ Some new → IsFree items j new
+name_free None items j new rising ids is = absurd (cc)
+name_free (Some rule) items j new rising ids is =
+    given_free rule items j (option_and_then live_name (state_of items j)) new rising ids is
 
 -- The name of a changed other is the new one that it was given.
 other_named :
@@ -356,18 +355,19 @@ other_named v (Some new) (Some (Live (c ∷ cells))) state name is live =
 -- Once all others are changed, the names are apart.
 pub others_apart :
     (own : ℕ) (rule : Option ClashRule) (i : ItemId) (c : Changing) (js : List ItemId)
-    → NewNamesAreFree → AreRising c.items → AreApartBut i js c.items → AreApart (change_others own rule c js).items
+    → AreIds c.items → ((j : ItemId) → Has j js → IsItemId j) → AreRising c.items → AreApartBut i js c.items
+    → AreApart (change_others own rule c js).items
 unfolding change_others
-others_apart own rule i c [] free rising but = apart_all i c.items but
-others_apart own rule i c (j ∷ js) free rising but =
-    let v = version_behind own c.clock in
-    let state = other_state (version_behind own c.clock) (name_given rule c.items j) (state_of c.items j) in
-    others_apart own rule i (change_other own rule j c) js free
+others_apart own rule i c [] ids fit rising but = apart_all i c.items but
+others_apart own rule i c (j ∷ js) ids fit rising but =
+    others_apart own rule i (change_other own rule j c) js
+    (ids_given j (other_state (version_behind own c.clock) (name_given rule c.items j) (state_of c.items j)) c.items (fit j (inl refl)) ids)
+    (λ k has. fit k (inr has))
     (rising_given j (other_state (version_behind own c.clock) (name_given rule c.items j) (state_of c.items j)) c.items rising)
     (apart_other i j js c.items (change_other own rule j c).items but
     (λ k other. state_kept j (other_state (version_behind own c.clock) (name_given rule c.items j) (state_of c.items j)) c.items k other)
     (λ name is.
-    name_free rule c.items j name free
+    name_free rule c.items j name rising ids
     (other_named (version_behind own c.clock) (name_given rule c.items j) (state_of c.items j) is.state name
     (sym (state_given j (other_state (version_behind own c.clock) (name_given rule c.items j) (state_of c.items j)) c.items rising) ∙ is.there)
     is.live)))

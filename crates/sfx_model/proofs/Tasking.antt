@@ -8,6 +8,7 @@ use Rattle.sfx_ids.specs.Tick.{max_tick}
 use Rattle.sfx_ids.specs.declared.cut.Cut.{Cut}
 use Rattle.sfx_ids.specs.declared.cut.Cut.TheVariants.{Start, At, After, End}
 use Rattle.sfx_ids.specs.declared.item_id.ItemId.{ItemId}
+use Rattle.sfx_ids.specs.ItemId.{IsItemId}
 use Rattle.sfx_vector.specs.Clocks.{tick_of}
 use Rattle.sfx_item.specs.declared.cell.Cell.{Cell}
 use Rattle.sfx_knowledge.specs.Knowledge.{Known, HasTicks, IsKnowledge, tick_at}
@@ -34,10 +35,11 @@ use Rattle.sfx_model.specs.States.{next_version}
 use Rattle.sfx_model.proofs.Applying.{Forgets_in, forgotten_too, forget_acts, forgotten_form, entered, IsKnownItem, Enters, entry_acts, changing, AreWaiting, OthersAct, others_act}
 use Rattle.sfx_model.proofs.Clashing.{plan_fits}
 use Rattle.sfx_model.proofs.Comparing.{laid_has}
+use Rattle.sfx_model.proofs.Counting.{AreIds, ids_given, seen_fits, held_fits, member_ids}
 use Rattle.sfx_model.proofs.Fitting.{Fits, Compared, change_fits, unlisted_fits}
 use Rattle.sfx_model.proofs.Forgetting.{forgot_all}
 use Rattle.sfx_model.proofs.Naming.{AreApartBut, named_cells}
-use Rattle.sfx_model.proofs.Planning.{NewNamesAreFree, plan_apart, plan_others, plan_once, others_apart}
+use Rattle.sfx_model.proofs.Planning.{plan_apart, plan_others, plan_once, others_apart}
 use Rattle.sfx_model.proofs.Putting.{state_kept, rising_given}
 use Rattle.sfx_model.proofs.Sites.{found}
 use Rattle.sfx_model.proofs.Stepping.{AllOf, Leaves, of_append, after_append, legal_append, all_leave, event_leaves, leaves_on}
@@ -70,6 +72,16 @@ forgotten_here w s snapshot b m Recover i r is orderly supplies =
     let joined = forgot_all m.forgotten b.forgotten orderly.forgotten supplies.forgotten (At i) r tt in
     let same = supplies.same.same (At i) r tt (everywhere (At i) tt) in
     omega (arith, joined, same)
+
+-- Its id is in range.
+task_id :
+    (w : World) (s : Site) (snapshot : Snapshot) (b : Batch) (m : Member) (t : Task)
+    → WellFormed w → Has s w.sites → Represents w s (shown m) → IsOrderly w.units m → Supplies w snapshot b
+    → TaskFits w snapshot b m t → IsItemId (task_item t)
+task_id w s snapshot b m (Change item) ok has rep orderly supplies fits =
+    seen_fits w snapshot item.id b.made_with item.state ok orderly.some supplies.made_with fits
+task_id w s snapshot b m (Unlisted i) ok has rep orderly supplies (carried, mode, local, is) =
+    held_fits w s m i local ok has rep orderly is
 
 -- The draft of the task, where its forgotten deletions are joined by now, is of one of the shapes.
 draft_fits :
@@ -119,12 +131,12 @@ entry_deeds units b t p m =
 
 entry_and_others :
     (w : World) (snapshot : Snapshot) (b : Batch) (rules : Rules) (m : Member) (t : Task)
-    → NewNamesAreFree → WellFormed w → RepresentsReplica w m.id (shown (forgotten_too b.mode b.forgotten m)) → IsOrderly w.units m
+    → WellFormed w → RepresentsReplica w m.id (shown (forgotten_too b.mode b.forgotten m)) → IsOrderly w.units m
     → Supplies w snapshot b → TaskFits w snapshot b m t → lacks (task_plan w.units rules b m t) m.clock ≡ false
     → TaskActs w (events_with snapshot (entry_deeds w.units b t (task_plan w.units rules b m t) m)) m
     (after_task w.units b t (task_plan w.units rules b m t) m)
 unfolding task_plan after_task changed_by
-entry_and_others w snapshot b rules m t free ok (s, at, rep) orderly supplies fits enough = record {
+entry_and_others w snapshot b rules m t ok (s, at, rep) orderly supplies fits enough = record {
   legal = (enters.legal, others.legal);
   of = (refl, others.of);
   stands = others.stands;
@@ -135,7 +147,7 @@ entry_and_others w snapshot b rules m t free ok (s, at, rep) orderly supplies fi
     knowledge = stored_form w.units m.id (At i) (After i) (left_from i 0 p.draft.marks) m.knowledge b.made_with orderly.some orderly.id orderly.knowledge supplies.made_with;
     forgotten = forgotten_form b m b.mode orderly.forgotten supplies.forgotten;
     rising = others.rising;
-    names = others_apart m.id p.acts i (changed_first w.units t p m) p.others free rising but;
+    names = others_apart m.id p.acts i (changed_first w.units t p m) p.others first_ids other_ids rising but;
   };
 }
   where
@@ -161,6 +173,21 @@ entry_and_others w snapshot b rules m t free ok (s, at, rep) orderly supplies fi
       rising = orderly.rising;
       names = orderly.names;
     }
+
+    ids : AreIds m.items
+    ids = member_ids w s m1 ok (found w.sites m.id s at).0 rep orderly1
+
+    item_id : IsItemId i
+    item_id = task_id w s snapshot b m1 t ok (found w.sites m.id s at).0 rep orderly1 supplies fits
+
+    first_ids : AreIds (changed_first w.units t p m).items
+    first_ids = ids_given i (state_after w.units (next_version m) p.draft (task_seen t) (state_of m.items i)) m.items item_id ids
+
+    other_ids : (k : ItemId) → Has k p.others → IsItemId k
+    other_ids k has =
+        let (name, named, clashing) = plan_others w.units rules.clash i m.items d k orderly.rising has in
+        let (x, there, is) = clashing.item in
+        subst (λ (j : ItemId). IsItemId j) is (ids x there)
 
     drafted : Fits w s snapshot i (task_seen t) (state_of m.items i) d
     drafted = draft_fits w s snapshot b rules m t ok (found w.sites m.id s at).0 rep orderly supplies fits
@@ -192,7 +219,7 @@ entry_and_others w snapshot b rules m t free ok (s, at, rep) orderly supplies fi
     rising = rising_given i (state_after w.units (next_version m) p.draft (task_seen t) (state_of m.items i)) m.items orderly.rising
 
     but : AreApartBut i p.others (changed_first w.units t p m).items
-    but = plan_apart w.units (next_version m) i (task_seen t) d rules.clash m.items free orderly.some orderly.rising orderly.names drafted.0 planned.0
+    but = plan_apart w.units (next_version m) i (task_seen t) d rules.clash m.items ids orderly.some orderly.rising orderly.names drafted.0 planned.0
 
     waiting : AreWaiting (changing (entered w.units b i (task_seen t) p.draft m1) (changed_first w.units t p m)) p.others
     waiting = record {
@@ -239,11 +266,11 @@ fits_on w x r snapshot b m (Unlisted i) leaves (carried, mode, local, is) =
 
 pub task_acts :
     (w : World) (snapshot : Snapshot) (b : Batch) (rules : Rules) (m : Member) (t : Task)
-    → NewNamesAreFree → WellFormed w → RepresentsReplica w m.id (shown m) → IsOrderly w.units m → Supplies w snapshot b
+    → WellFormed w → RepresentsReplica w m.id (shown m) → IsOrderly w.units m → Supplies w snapshot b
     → TaskFits w snapshot b m t → lacks (task_plan w.units rules b m t) m.clock ≡ false
     → TaskActs w (events_with snapshot (task_deeds w.units b t (task_plan w.units rules b m t) m)) m
     (after_task w.units b t (task_plan w.units rules b m t) m)
-task_acts w snapshot b rules m t free ok stands orderly supplies fits enough =
+task_acts w snapshot b rules m t ok stands orderly supplies fits enough =
     let es : List Event = events_with snapshot (forget_deeds b.mode m.id b.source) in
     let first = forget_acts w snapshot b m b.mode ok stands orderly supplies (carried_of w snapshot b m t fits).sound in
     let x : World = after_all w (events_with snapshot (forget_deeds b.mode m.id b.source)) in
@@ -254,7 +281,7 @@ task_acts w snapshot b rules m t free ok stands orderly supplies fits enough =
     let next : TaskActs (after_all w (events_with snapshot (forget_deeds b.mode m.id b.source)))
     (events_with snapshot (entry_deeds w.units b t (task_plan w.units rules b m t) m)) m (after_task w.units b t (task_plan w.units rules b m t) m) =
     subst acts leaves.count
-    (entry_and_others (after_all w (events_with snapshot (forget_deeds b.mode m.id b.source))) snapshot b rules m t free leaves.ok first.stands
+    (entry_and_others (after_all w (events_with snapshot (forget_deeds b.mode m.id b.source))) snapshot b rules m t leaves.ok first.stands
     (subst (λ (n : ℕ). IsOrderly n m) (sym leaves.count) orderly)
     (supplies_on w (after_all w (events_with snapshot (forget_deeds b.mode m.id b.source))) m.id snapshot b leaves supplies)
     (fits_on w (after_all w (events_with snapshot (forget_deeds b.mode m.id b.source))) m.id snapshot b m t leaves fits)
