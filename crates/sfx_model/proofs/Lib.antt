@@ -49,3 +49,4 @@ pub mod Counting
 pub mod Planning
 pub mod Applying
 pub mod Tasking
+pub mod Ranging

@@ -1,18 +1,21 @@
 -- What is asked of a member that takes part in sessions, and what is said of events that it does one after
 -- another.
-use Rattle.std.specs.Prelude.{◌≡◌, ℕ, ◌<◌, ◌≤◌, ◌^◌, List}
-use Rattle.sfx_ids.specs.declared.cut.Cut.TheVariants.{Start, End}
+use Rattle.std.specs.Prelude.{◌≡◌, ◌⊎◌, ℕ, ◌<◌, ◌≤◌, ◌^◌, true, false, List}
+use Rattle.sfx_ids.specs.declared.cut.Cut.TheVariants.{Start, At, End}
+use Rattle.sfx_ids.specs.declared.item_id.ItemId.{ItemId}
 use Rattle.sfx_ids.specs.Tick.{max_tick}
 use Rattle.sfx_vector.specs.Clocks.{tick_of}
 use Rattle.sfx_knowledge.specs.Knowledge.{IsKnowledge}
 use Rattle.sfx_knowledge.specs.Forgotten.{AreForgets, fvec}
+use Rattle.sfx_knowledge.specs.Skips.{is_skipped}
+use Rattle.sfx_model.specs.declared.mode.Mode.TheVariants.{Recover}
 use Rattle.sfx_model.specs.Batch.{Batch}
 use Rattle.sfx_model.specs.Consistent.{AreApart}
-use Rattle.sfx_model.specs.Events.{Event, AllLegal, after_all}
+use Rattle.sfx_model.specs.Events.{Event, AllLegal, after_all, is_in, IsKnownHere}
 use Rattle.sfx_model.specs.Members.{Member, AreRising, shown}
 use Rattle.sfx_model.specs.Replica.{RepresentsReplica}
 use Rattle.sfx_model.specs.Results.{BacksForgotten}
-use Rattle.sfx_model.specs.World.{Snapshot, World, WellFormed}
+use Rattle.sfx_model.specs.World.{Site, Snapshot, World, WellFormed}
 
 -- The lists of the member are in order: id and clock are in range, what it knows and has forgotten stands
 -- in its one form, its items are in order of their ids, and its live names do not clash.
@@ -39,3 +42,17 @@ pub record AllActIn (w : World) (events : List Event) (r : ℕ) (m : Member) : T
   pub well_formed : WellFormed (after_all w events)
   pub represents : RepresentsReplica (after_all w events) r (shown m)
   pub orderly : IsOrderly w.units m
+
+-- The item is gone from both sides, no unit of it is left out, and what the snapshot has forgotten of it is
+-- forgotten here, or will be, since the batch is one of a recovery.
+pub record IsGone (s : Site) (snapshot : Snapshot) (b : Batch) (left : List (ItemId × ℕ)) (i : ItemId) : Type 0 where
+  pub here : s.present i ≡ false
+  pub there : snapshot.present i ≡ false
+  pub whole : (u : ℕ) → is_skipped left i u ≡ false
+  pub forgotten : (b.mode ≡ Recover) ⊎ ((r : ℕ) → snapshot.forgotten (At i) r ≤ s.forgotten (At i) r)
+
+-- The batch's range may be learned at the site, but for these units: each item of it is known here, or is
+-- gone from both sides.
+abbrev pub RangeFits : Site → Snapshot → Batch → List (ItemId × ℕ) → Type 0
+RangeFits s snapshot b left =
+    (i : ItemId) → is_in b.from b.to i ≡ true → IsKnownHere s snapshot (is_skipped left) i ⊎ IsGone s snapshot b left i
