@@ -60,10 +60,13 @@ by_unit units d name P u some first others = elim (cases_eq u 0) [
 renamed_together :
     (units : ℕ) (seen here : Option ItemState) (d : Draft) (name : List ℕ)
     → 1 ≤ length d.marks → GoTogether units seen here d → GoTogether units seen here (stamped_name units name d)
-renamed_together units seen here d name some (inl (theirs, ours)) = inl (theirs, elim ours [
-  | inl own ↦ inl own
-  | inr all ↦ inr (λ u small. by_unit units d name (λ k. brings_unit k ≡ true) u some (λ is. refl) (λ other. all u small))
-])
+renamed_together units seen here d name some (inl (theirs, ours)) = inl (
+  theirs,
+  elim ours [
+    | inl own ↦ inl own
+    | inr all ↦ inr (λ u small. by_unit units d name (λ k. brings_unit k ≡ true) u some (λ is. refl) (λ other. all u small))
+  ],
+)
 renamed_together units seen here d name some (inr all) =
     inr (λ u small. by_unit units d name (λ k. k ≡ Stamped) u some (λ is. refl) (λ other. all u small))
 

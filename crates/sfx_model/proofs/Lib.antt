@@ -50,3 +50,4 @@ pub mod Planning
 pub mod Applying
 pub mod Tasking
 pub mod Ranging
+pub mod Entailing

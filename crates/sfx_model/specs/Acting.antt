@@ -1,6 +1,6 @@
 -- What is asked of a member that takes part in sessions, and what is said of events that it does one after
 -- another.
-use Rattle.std.specs.Prelude.{◌≡◌, ◌⊎◌, ℕ, ◌<◌, ◌≤◌, ◌^◌, true, false, List}
+use Rattle.std.specs.Prelude.{◌≡◌, ◌⊎◌, ℕ, ◌<◌, ◌≤◌, ◌^◌, true, false, List, IsSomeAnd}
 use Rattle.sfx_ids.specs.declared.cut.Cut.TheVariants.{Start, At, End}
 use Rattle.sfx_ids.specs.declared.item_id.ItemId.{ItemId}
 use Rattle.sfx_ids.specs.Tick.{max_tick}
@@ -9,12 +9,20 @@ use Rattle.sfx_knowledge.specs.Knowledge.{IsKnowledge}
 use Rattle.sfx_knowledge.specs.Forgotten.{AreForgets, fvec}
 use Rattle.sfx_knowledge.specs.Skips.{is_skipped}
 use Rattle.sfx_model.specs.declared.mode.Mode.TheVariants.{Recover}
+use Rattle.sfx_model.specs.declared.mark.Mark.TheVariants.{Stays}
+use Rattle.sfx_model.specs.Sets.{IsPart}
 use Rattle.sfx_model.specs.Batch.{Batch}
 use Rattle.sfx_model.specs.Consistent.{AreApart}
-use Rattle.sfx_model.specs.Events.{Event, AllLegal, after_all, is_in, IsKnownHere}
+use Rattle.sfx_model.specs.Deeds.{events_with, range_deeds, task_deeds}
+use Rattle.sfx_model.specs.Draft.{Draft, is_left}
+use Rattle.sfx_model.specs.Entry.{Task, after_task, lacks, task_plan}
+use Rattle.sfx_model.specs.Events.{Event, AllLegal, after_all, is_in, site_of, IsKnownHere}
 use Rattle.sfx_model.specs.Members.{Member, AreRising, shown}
 use Rattle.sfx_model.specs.Replica.{RepresentsReplica}
 use Rattle.sfx_model.specs.Results.{BacksForgotten}
+use Rattle.sfx_model.specs.Rules.{Rules}
+use Rattle.sfx_model.specs.Session.{after_range}
+use Rattle.sfx_model.specs.Units.{at_unit}
 use Rattle.sfx_model.specs.World.{Site, Snapshot, World, WellFormed}
 
 -- The lists of the member are in order: id and clock are in range, what it knows and has forgotten stands
@@ -56,3 +64,26 @@ pub record IsGone (s : Site) (snapshot : Snapshot) (b : Batch) (left : List (Ite
 abbrev pub RangeFits : Site → Snapshot → Batch → List (ItemId × ℕ) → Type 0
 RangeFits s snapshot b left =
     (i : ItemId) → is_in b.from b.to i ≡ true → IsKnownHere s snapshot (is_skipped left) i ⊎ IsGone s snapshot b left i
+
+-- The task's entry acts in the world: its deeds, with this snapshot, may happen, and the destination after it
+-- represents its site.
+abbrev pub EntryActs : World → Snapshot → Batch → Rules → Member → Task → Type 0
+EntryActs w snapshot b rules m t =
+    AllActIn w (events_with snapshot (task_deeds w.units b t (task_plan w.units rules b m t) m)) m.id
+    (after_task w.units b t (task_plan w.units rules b m t) m)
+
+-- The batch's range acts in the world so, but for these units.
+abbrev pub RangeActs : World → Snapshot → Batch → List (ItemId × ℕ) → Member → Type 0
+RangeActs w snapshot b left m =
+    AllActIn w (events_with snapshot (range_deeds b left m)) m.id (after_range w.units b left m)
+
+-- Enough ticks are left for the task.
+abbrev pub HasTicksLeft : World → Batch → Rules → Member → Task → Type 0
+HasTicksLeft w b rules m t = lacks (task_plan w.units rules b m t) m.clock ≡ false
+
+-- The site of the replica knows what the snapshot knows of the task's item, but for the units that the plan
+-- leaves alone.
+abbrev pub LearnsItem : World → ℕ → Snapshot → ItemId → Draft → Type 0
+LearnsItem w r snapshot i draft =
+    IsSomeAnd (site_of w.sites r)
+    (λ s. (u : ℕ) → is_left (at_unit draft.marks u Stays) ≡ false → IsPart (snapshot.known i u) (s.known i u))
