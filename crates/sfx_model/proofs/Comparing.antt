@@ -25,7 +25,8 @@ use Rattle.sfx_model.specs.Members.{Member, MemberItem, ItemState, Live, Dead, I
 use Rattle.sfx_model.specs.Readings.{knows_version, is_unseen_at, is_unseen}
 use Rattle.sfx_model.specs.Snapshots.{HasContained, AreWithin}
 use Rattle.sfx_model.proofs.Headline.{cell_there}
-use Rattle.sfx_model.proofs.PerUnit.{none_at, every_at}
+use Rattle.sfx_model.proofs.Knowing.{forgotten_within_decided}
+use Rattle.sfx_model.proofs.PerUnit.{none_at}
 
 -- What a member knows, as a list with its own clock laid over it.
 pub laid_has : (units : ℕ) (m : Member) → IsOrderly units m → HasTicks units (laid_known units m) (vector_at m)
@@ -87,29 +88,6 @@ creation_lacks units known ticks i has some lacks contained =
     subst (λ (t : ℕ). (creation_of i).tick ≤ t) (sym (has (At i) 0 (creation_of i).replica tt some)) contained in
     true≢false (sym (is_le (creation_of i).tick (tick_at known (At i) 0 (creation_of i).replica) low) ∙ lacks)
 
--- A vector that is within knowledge by its listed replicas is within it.
-listed_passes :
-    (test : ℕ → Bool) (rs : List ℕ) (r : ℕ) → list_all test rs ≡ true → is_listed rs r ≡ true → test r ≡ true
-listed_passes test [] r all there = absurd (true≢false (sym there))
-listed_passes test (x ∷ rs) r all there =
-    by_test (listed_passes test rs r (and_parts (test x) (list_all test rs) all).1) (nat_eq x r) refl there
-  where
-    by_test :
-        (is_listed rs r ≡ true → test r ≡ true)
-        → (b : Bool) → nat_eq x r ≡ b → (b || is_listed rs r) ≡ true → test r ≡ true
-    by_test rest true e t = subst (λ (q : ℕ). test q ≡ true) (eqb-true x r e) (and_parts (test x) (list_all test rs) all).0
-    by_test rest false e t = rest t
-
-pub within_is :
-    (clocks : Clocks) (known : Known) (place : Cut) (u r : ℕ)
-    → is_within clocks known place u ≡ true → tick_of clocks r ≤ tick_at known place u r
-within_is clocks known place u r test = elim (tested (is_listed (listed_in clocks) r)) [
-  | yes_it there ↦
-      le_is (tick_of clocks r) (tick_at known place u r)
-      (listed_passes (λ q. nat_le (tick_of clocks q) (tick_at known place u q)) (listed_in clocks) r test there)
-  | not_it gone ↦ let none = tick-unlisted clocks r gone in omega (arith, none)
-]
-
 -- Forgotten deletions that are within knowledge of an item by the test are so.
 pub forgotten_within :
     (units : ℕ) (forgotten : Forgets) (known : Known) (ticks : Cut → ℕ → ℕ → ℕ) (i : ItemId)
@@ -117,5 +95,4 @@ pub forgotten_within :
     → AreWithin units i (λ place r. tick_of (fvec forgotten place) r) ticks
 forgotten_within units forgotten known ticks i has test u r small =
     subst (λ (t : ℕ). tick_of (fvec forgotten (At i)) r ≤ t) (has (At i) u r tt small)
-    (within_is (fvec forgotten (At i)) known (At i) u r
-    (every_at (is_within (fvec forgotten (At i)) known (At i)) units u test small))
+    ((forgotten_within_decided units forgotten known i).0 test u r small)

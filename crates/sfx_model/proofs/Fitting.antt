@@ -29,7 +29,8 @@ use Rattle.sfx_model.specs.Readings.{knows_version, is_unseen_at, is_unseen}
 use Rattle.sfx_model.specs.Rules.{Rules}
 use Rattle.sfx_model.specs.Snapshots.{Meets, HasContained, AreWithin}
 use Rattle.sfx_model.specs.Units.{each_unit, at_unit}
-use Rattle.sfx_model.proofs.PerUnit.{at_each, length_each, all_at}
+use Rattle.std.proofs.lemmas.List.{length-map}
+use Rattle.sfx_model.proofs.PerUnit.{at_each, at_map, length_each, all_at}
 use Rattle.sfx_model.proofs.Headline.{cell_there}
 use Rattle.sfx_model.proofs.Classes.{known_here, newer_taken, new_taken, cleaned_taken, dropped_legal, range_cleaned, range_unknown}
 use Rattle.sfx_model.proofs.Comparing.{item_seen, unit_contained, creation_lacks, forgotten_within}
@@ -67,19 +68,19 @@ the_cell cells u small = let (c, is) = cell_there cells u small in (c, is, sym (
 
 units_shape :
     (units : ℕ) (rules : Rules) (classes : List UnitClass) (cells own : List Cell)
-    → length cells ≡ units → length own ≡ units
+    → length cells ≡ units → length own ≡ units → length classes ≡ units
     → IsShaped units (Some (Live cells)) (Some (Live own)) (units_draft units rules classes cells own)
-units_shape units rules classes cells own whole long =
-    by_test (list_all is_left (unit_marks units rules.keep classes)) refl
+units_shape units rules classes cells own whole long classed =
+    by_test (list_all is_left (unit_marks rules.keep classes)) refl
   where
     marks : List Mark
-    marks = unit_marks units rules.keep classes
+    marks = unit_marks rules.keep classes
 
     values : List (List ℕ)
     values = unit_values units rules classes cells own
 
     mark_at : (u : ℕ) → u < units → at_unit marks u Stays ≡ unit_mark rules.keep (at_unit classes u KnownUnit)
-    mark_at u small = at_each units (λ x. unit_mark rules.keep (at_unit classes x KnownUnit)) u Stays small
+    mark_at u small = at_map (unit_mark rules.keep) classes u KnownUnit Stays (omega arith)
 
     value_at : (u : ℕ) → u < units → at_unit values u [] ≡ unit_value rules u (at_unit classes u KnownUnit) (value_in cells u) (value_in own u)
     value_at u small =
@@ -90,12 +91,12 @@ units_shape units rules classes cells own whole long =
         → list_all is_left marks ≡ b
         → IsShaped units (Some (Live cells)) (Some (Live own)) (record { marks = marks; values = if b then None else Some values })
     by_test true e = record {
-      long = length_each units (λ u. unit_mark rules.keep (at_unit classes u KnownUnit));
+      long = length-map classes (unit_mark rules.keep) ∙ classed;
       shape = LeavesAll (λ u small. left_is (at_unit marks u Stays)
-          (all_at is_left marks u Stays (omega (arith, length_each units (λ u. unit_mark rules.keep (at_unit classes u KnownUnit)))) e)) refl;
+          (all_at is_left marks u Stays (omega (arith, length-map classes (unit_mark rules.keep))) e)) refl;
     }
     by_test false e = record {
-      long = length_each units (λ u. unit_mark rules.keep (at_unit classes u KnownUnit));
+      long = length-map classes (unit_mark rules.keep) ∙ classed;
       shape = MakesLive values (record {
         are = refl;
         whole = length_each units (λ u. unit_value rules u (at_unit classes u KnownUnit) (value_in cells u) (value_in own u));
@@ -283,9 +284,11 @@ both_live_fits :
     (units_draft w.units rules (each_unit w.units (unit_class known made_with i (Live cells) (Live own))) cells own)
 both_live_fits w s m snapshot rules i known made_with cells own c at = (
   units_shape w.units rules classes cells own (seen_cells w s m snapshot i known made_with (Some (Live cells)) c)
-      (here_cells w s m snapshot i known made_with (Some (Live cells)) (Some (Live own)) c at),
+      (here_cells w s m snapshot i known made_with (Some (Live cells)) (Some (Live own)) c at)
+      (length_each w.units (unit_class known made_with i (Live cells) (Live own))),
   λ u small. subst (λ (k : Mark). MarkFits w s snapshot i u k)
-      (sym (at_each w.units (λ x. unit_mark rules.keep (at_unit classes x KnownUnit)) u Stays small
+      (sym (at_map (unit_mark rules.keep) classes u KnownUnit Stays
+      (omega (arith, length_each w.units (unit_class known made_with i (Live cells) (Live own))))
       ∙ ap (unit_mark rules.keep) (at_each w.units (unit_class known made_with i (Live cells) (Live own)) u KnownUnit small)))
       (class_mark_fits w s m snapshot rules.keep i known made_with (Live cells) (Live own) u c at small),
 )

@@ -32,6 +32,8 @@ pub mod Accepted
 pub mod Run
 pub mod Classes
 pub mod Staying
+pub mod Bounds
+pub mod Knowing
 pub mod Learned
 pub mod Storing
 pub mod Forgetting

@@ -2,12 +2,12 @@
 use Rattle.std.proofs.Common.{◌≡◌, ◌≢◌, ◌⊎◌, ℕ, zero, suc, ◌+◌, ◌<◌, ◌≤◌, ◌&&◌, ◌||◌, Bool, true, false, true≢false, List, [], ◌∷◌, length, map, replicate, take, drop, get_or, Option, Some, None, slice_get, arith, inl, inr, refl, sym, ◌∙◌, ap, subst}
 use Rattle.std.specs.Prelude.{slice_set}
 use Rattle.std.specs.List.{range_with_len, list_any, list_all}
-use Rattle.std.specs.Option.{unwrap_or}
+use Rattle.std.specs.Option.{unwrap_or, option_map}
 use Rattle.std.proofs.lemmas.Bool.{cases_eq, and_parts}
 use Rattle.std.proofs.lemmas.List.{get_or-replicate, get_or-set_same, get_or-set_other}
 use Rattle.std.proofs.lemmas.List.Folds.{list_any_at}
 use Rattle.std.proofs.lemmas.List.FromFn.{get_or-map-range_with_len, length-map-range_with_len}
-use Rattle.std.proofs.lemmas.Option.{unwrap_or-slice_get, slice_get-get_or, slice_get_within, slice_get_past}
+use Rattle.std.proofs.lemmas.Option.{unwrap_or-slice_get, slice_get-get_or, slice_get-map, slice_get_within, slice_get_past}
 use Rattle.sfx_model.specs.Events.{some_unit}
 use Rattle.sfx_model.specs.Units.{each_unit, every_unit, at_unit}
 
@@ -44,6 +44,11 @@ each_get {A} units f u x is =
 -- A list with one thing for all units.
 pub at_replicate : {A : Type 0} (units u : ℕ) (a d : A) → u < units → at_unit (replicate units a) u d ≡ a
 at_replicate units u a d small = unwrap_or-slice_get (replicate units a) u d ∙ get_or-replicate units u a d small
+
+-- A list made of another.
+pub at_map : {A B : Type 0} (f : A → B) (xs : List A) (u : ℕ) (d : A) (e : B) → u < length xs → at_unit (map f xs) u e ≡ f (at_unit xs u d)
+at_map f xs u d e small =
+    at_get (map f xs) u (f (at_unit xs u d)) e (slice_get-map f xs u ∙ ap (option_map f) (get_at xs u d small))
 
 -- A list with another thing for one unit.
 pub at_set : {A : Type 0} (xs : List A) (u : ℕ) (a d : A) → u < length xs → at_unit (slice_set xs u a) u d ≡ a
@@ -85,16 +90,6 @@ pub all_at : {A : Type 0} (test : A → Bool) (xs : List A) (u : ℕ) (d : A) �
 all_at test [] u d small all = absurd (omega arith)
 all_at test (x ∷ xs) zero d small all = (and_parts (test x) (list_all test xs) all).0
 all_at test (x ∷ xs) (suc u) d small all = all_at test xs u d (omega arith) (and_parts (test x) (list_all test xs) all).1
-
--- Every unit passes a test.
-pub every_at : (test : ℕ → Bool) (units u : ℕ) → every_unit test units ≡ true → u < units → test u ≡ true
-every_at test zero u every small = absurd (omega arith)
-every_at test (suc n) u every small =
-    let parts = and_parts (test n) (every_unit test n) every in
-    elim (cases_eq u n) [
-      | inl same ↦ subst (λ (x : ℕ). test x ≡ true) (sym same) parts.0
-      | inr other ↦ every_at test n u parts.1 (omega arith)
-    ]
 
 -- No unit passes a test.
 pub none_at : (test : ℕ → Bool) (units u : ℕ) → some_unit test units ≡ false → u < units → test u ≡ false

@@ -2,7 +2,7 @@
 -- their marks.
 use Rattle.std.proofs.Common.{◌≡◌, ◌≢◌, ◌⊎◌, ℕ, ◌<◌, ◌≤◌, Bool, true, false, true≢false, if◌then◌else◌, List, [], ◌∷◌, length, map, replicate, Option, Some, None, slice_get, arith, inl, inr, refl, sym, ◌∙◌, ap, subst}
 use Rattle.std.specs.List.{list_all}
-use Rattle.std.specs.Option.{option_map, option_or}
+use Rattle.std.specs.Option.{option_map, option_map_or, option_or}
 use Rattle.std.proofs.lemmas.List.{length-map, length-replicate}
 use Rattle.std.proofs.lemmas.Option.{slice_get-map}
 use Rattle.sfx_ids.specs.declared.cut.Cut.{Cut}
@@ -115,12 +115,15 @@ marked_have units k values u small = at_replicate units u k Stays small
 
 -- The value of a cell.
 pub value_there : (cells : List Cell) (u : ℕ) (c : Cell) → slice_get cells u ≡ Some c → value_in cells u ≡ c.value
-value_there cells u c is =
-    at_get (map (λ (x : Cell). x.value) cells) u c.value []
-    (slice_get-map (λ (x : Cell). x.value) cells u ∙ ap (option_map (λ (x : Cell). x.value)) is)
+value_there cells u c is = ap (λ (o : Option Cell). option_map_or (λ (x : Cell). x.value) o []) is
 
 abbrev cell_values : List Cell → List (List ℕ)
 cell_values cells = map (λ c. c.value) cells
+
+listed_value : (cells : List Cell) (u : ℕ) (c : Cell) → slice_get cells u ≡ Some c → at_unit (cell_values cells) u [] ≡ c.value
+listed_value cells u c is =
+    at_get (map (λ (x : Cell). x.value) cells) u c.value []
+    (slice_get-map (λ (x : Cell). x.value) cells u ∙ ap (option_map (λ (x : Cell). x.value)) is)
 
 -- Every unit is stamped with its value.
 stamped_shape :
@@ -214,7 +217,7 @@ taken_shape units (Live cells) here has = record {
     each = λ u small.
         let (c, is) = cell_there cells u (omega (arith, has)) in
         subst (λ (k : Mark). IsLiveUnit k (at_unit (cell_values cells) u []) (slice_get cells u) (cell_at here u))
-        (sym (marked_have units Taken (Some (cell_values cells)) u small)) (c, is, sym (value_there cells u c is));
+        (sym (marked_have units Taken (Some (cell_values cells)) u small)) (c, is, sym (listed_value cells u c is));
     together = inl ((cells, refl), inr (λ u small. rw (marked_have units Taken (Some (cell_values cells)) u small) refl));
   });
 }

@@ -1,8 +1,8 @@
 -- What an entry is to do with its item, before it is known whether a name clashes: `seen` is the state of
 -- the item at the source and `here` at the destination, none where it is absent or was cleaned away.
-use Rattle.std.specs.Prelude.{ℕ, Bool, true, false, if◌then◌else◌, List, [], map, replicate, Option, Some, None}
+use Rattle.std.specs.Prelude.{ℕ, Bool, true, false, if◌then◌else◌, List, [], map, replicate, Option, Some, None, slice_get}
 use Rattle.std.specs.List.{list_all}
-use Rattle.std.specs.Option.{option_or}
+use Rattle.std.specs.Option.{option_or, option_map_or}
 use Rattle.sfx_item.specs.declared.cell.Cell.{Cell}
 use Rattle.sfx_model.specs.declared.keep.Keep.{Keep}
 use Rattle.sfx_model.specs.declared.keep.Keep.TheVariants.{Source, Destination, Merge, Skip}
@@ -37,7 +37,7 @@ values_of (Some (Dead v)) = None
 
 -- The value that the cells have of the unit.
 abbrev pub value_in : List Cell → ℕ → List ℕ
-value_in cells u = at_unit (map (λ c. c.value) cells) u []
+value_in cells u = option_map_or (λ c. c.value) (slice_get cells u) []
 
 -- Every unit has this mark, and these are the values.
 abbrev pub all_marked : ℕ → Mark → Option (List (List ℕ)) → Draft
@@ -90,8 +90,8 @@ is_left Left = true
 is_left Gone = false
 
 -- The marks of units of these classes.
-abbrev pub unit_marks : ℕ → Keep → List UnitClass → List Mark
-unit_marks units keep classes = each_unit units (λ u. unit_mark keep (at_unit classes u Known))
+abbrev pub unit_marks : Keep → List UnitClass → List Mark
+unit_marks keep classes = map (unit_mark keep) classes
 
 -- The values of units of these classes.
 abbrev pub unit_values : ℕ → Rules → List UnitClass → List Cell → List Cell → List (List ℕ)
@@ -101,9 +101,9 @@ unit_values units rules classes seen here =
 -- An item that is live on both sides, unit by unit.
 abbrev pub units_draft : ℕ → Rules → List UnitClass → List Cell → List Cell → Draft
 units_draft units rules classes seen here = record {
-  marks = unit_marks units rules.keep classes;
+  marks = unit_marks rules.keep classes;
   values =
-      if list_all is_left (unit_marks units rules.keep classes) then None
+      if list_all is_left (unit_marks rules.keep classes) then None
       else Some (unit_values units rules classes seen here);
 }
 

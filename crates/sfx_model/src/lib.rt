@@ -14,8 +14,8 @@ pub use mode::Mode;
 pub use results::results_follow;
 pub use session_end::SessionEnd;
 pub use sessions::{
-    clashes_on_examples, conflicts_on_examples, moments_join, new_names_on_examples,
-    sessions_on_examples,
+    batches_are_bounded, clashes_on_examples, conflicts_on_examples, knowledge_is_decided,
+    moments_join, new_names_on_examples, sessions_on_examples,
 };
 pub use snapshots::{marks_are_legal, snapshots_stay};
 pub use unit_class::UnitClass;

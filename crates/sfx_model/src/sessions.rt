@@ -1,13 +1,26 @@
-ghost use Rattle.std.specs.Prelude.{◌≡◌, ◌++◌, ℕ, List, [], ◌∷◌, Some, None, codes, replicate};
+ghost use Rattle.std.specs.Prelude.{◌≡◌, ◌++◌, ◌+◌, ◌≤◌, ◌<◌, ◌↔◌, ℕ, IsTrue, length, Option, List, [], ◌∷◌, Some, None, codes, replicate};
 ghost use Rattle.sfx_ids.specs.declared.cut.Cut.TheVariants.{After, End, Start};
+ghost use Rattle.sfx_ids.specs.declared.cut.Cut.{Cut};
+ghost use Rattle.sfx_ids.specs.declared.item_id.ItemId.{ItemId};
+ghost use Rattle.sfx_knowledge.specs.Forgotten.{Forgets, IsForgottenWithinAt};
+ghost use Rattle.sfx_knowledge.specs.Knowledge.{HasTicks, IsKnowledge, Known, learned, tick_at};
+ghost use Rattle.sfx_model.specs.Batch.{batch_from};
+ghost use Rattle.sfx_model.specs.Class.{is_forgotten_within};
+ghost use Rattle.sfx_model.specs.Knowing.{learned_known};
+ghost use Rattle.sfx_model.specs.Members.{Member};
 ghost use Rattle.sfx_model.specs.Moments.{Moment, committed};
 ghost use Rattle.sfx_model.specs.Renamed.{renamed};
+ghost use Rattle.sfx_model.specs.Readings.{items_from};
+ghost use Rattle.sfx_model.specs.Rules.{Rules};
+ghost use Rattle.sfx_model.specs.Session.{Course, ending, session_from};
 ghost use Rattle.sfx_model.specs.SessionExamples.{after, collision, conflict, created_of, creator, dead_of, deletion, editor, entries_of, entry, first, first_two, five, item_of, items_after, known_after, live_of, new, other, quiet, ranges_of, receiver, rest_of, revalued, second_collision, skipping, two, unknown_value, version_of};
+ghost use Rattle.sfx_model.specs.declared.apply_end.ApplyEnd.{ApplyEnd};
 ghost use Rattle.sfx_model.specs.declared.clash_rule.ClashRule.TheVariants.{Destination, RenameDestination, RenameSource, Skip, Source};
 ghost use Rattle.sfx_model.specs.declared.entry_kind.EntryKind.TheVariants.{Deleted, Renamed, Settled, Skipped, Took};
 ghost use Rattle.sfx_model.specs.declared.keep.Keep.TheVariants.{Destination as KeepDestination, Merge, Skip as KeepNone, Source as KeepSource};
 ghost use Rattle.sfx_model.specs.declared.mark.Mark.TheVariants.{Left, Stamped, Stays, Taken};
-ghost use Rattle.sfx_model.specs.declared.session_end.SessionEnd.TheVariants.{Cut, Done};
+ghost use Rattle.sfx_model.specs.declared.mode.Mode.{Mode};
+ghost use Rattle.sfx_model.specs.declared.session_end.SessionEnd.TheVariants.{Cut as CutOff, Done};
 
 /// Moments that follow others add their committed states. Nothing happens when this function is called.
 pub fn moments_join()
@@ -29,7 +42,7 @@ pub fn sessions_on_examples()
     ensures edited { entries_of (skipping (editor (codes "y")) creator 100 None) ≡ quiet first Took Stays Taken ∷ [] }
     ensures changed { items_after (skipping (editor (codes "y")) creator 100 None) ≡ revalued (version_of 1 11) (codes "y") ∷ [] }
     ensures cut { entries_of (skipping five new 100 (Some 2)) ≡ quiet (item_of 1 10) Took Taken Taken ∷ quiet (item_of 2 10) Took Taken Taken ∷ [] }
-    ensures cut_end { (skipping five new 100 (Some 2)).end ≡ Cut }
+    ensures cut_end { (skipping five new 100 (Some 2)).end ≡ CutOff }
     ensures cut_known { known_after (skipping five new 100 (Some 2)) ≡ first_two }
     ensures rest { ranges_of rest_of ≡ (Start, End, 3) ∷ [] }
     ensures rest_known { after rest_of ≡ after (skipping five new 100 None) }
@@ -79,4 +92,31 @@ pub fn new_names_on_examples()
     ensures no_mark { renamed (codes "a~b~") 1 ≡ codes "a~b~~1" }
     ensures cut_short { renamed (replicate 255 97) 1 ≡ replicate 253 97 ++ codes "~1" }
     ensures no_room { renamed (97 ∷ 47 ∷ replicate 253 98) 1 ≡ codes "~1" }
+{}
+
+/// A session takes at most as many batches as its source has items, and one more: the bound of its
+/// recursion is never met. Nothing happens when this function is called.
+///
+/// `fewer`: where a batch does not end the session, fewer items of the source are behind its range than
+/// were behind its first place. `enough`: any two bounds that are as great as the number of these items
+/// give the same session.
+pub fn batches_are_bounded()
+    ensures fewer { (units : ℕ) (source : Member) (mode : Mode) (size : ℕ) (known : Known) (from : Cut) (end : ApplyEnd) (budget : Option ℕ) →
+        ending (batch_from units source mode size known from).to end budget ≡ None →
+        length (items_from (batch_from units source mode size known from).to source.items) < length (items_from from source.items) }
+    ensures enough { (n k units : ℕ) (source : Member) (mode : Mode) (rules : Rules) (size : ℕ) (c : Course) (from : Cut) →
+        length (items_from from source.items) ≤ n → length (items_from from source.items) ≤ k →
+        session_from (n + 1) units source mode rules size c from ≡ session_from (k + 1) units source mode rules size c from }
+{}
+
+/// What is known and forgotten, as functions that compute it. Nothing happens when this function is called.
+///
+/// `within`: whether forgotten deletions are within the knowledge of an item. `learned`: knowledge that is
+/// learned is in its one form, and has the learned ticks.
+pub fn knowledge_is_decided()
+    ensures within { (units : ℕ) (forgotten : Forgets) (known : Known) (i : ItemId) →
+        IsTrue (is_forgotten_within units forgotten known i) ↔ IsForgottenWithinAt units forgotten known i }
+    ensures learned { (units : ℕ) (lo hi : Cut) (skipped : List (ItemId × ℕ)) (here there : Known) →
+        1 ≤ units → IsKnowledge units here → IsKnowledge units there →
+        IsKnowledge units (learned_known units lo hi skipped here there) × HasTicks units (learned_known units lo hi skipped here there) (learned lo hi skipped (tick_at here) (tick_at there)) }
 {}

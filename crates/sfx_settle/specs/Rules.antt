@@ -1,0 +1,8 @@
+-- The rules of a session as plain data.
+use Rattle.std.specs.Prelude.{ℕ, List}
+use Rattle.sfx_model.specs.Rules.{Rules}
+use Rattle.sfx_settle.specs.declared.rules.Rules.{Rules as SessionRules}
+
+-- The rules, by what their merger means.
+abbrev pub rules_view : {M : Type 0} → (M → ℕ → List ℕ → List ℕ → List ℕ) → SessionRules M → Rules
+rules_view meaning rules = record { keep = rules.keep; clash = rules.clash; merge = meaning rules.merger }
