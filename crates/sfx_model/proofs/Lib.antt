@@ -53,3 +53,4 @@ pub mod Applying
 pub mod Tasking
 pub mod Ranging
 pub mod Entailing
+pub mod Sourcing
