@@ -377,11 +377,14 @@ left_listed i from (k ∷ ks) (suc u) =
     by_test true rest = rw (other_unit i from (from + suc u) (λ e. omega arith)) rest
     by_test false rest = rest
 
+pub marks_left : (i : ItemId) (ks : List Mark) (u : ℕ) → is_skipped (left_from i 0 ks) i u ≡ is_left (at_unit ks u Stays)
+marks_left i ks u =
+    subst (λ (n : ℕ). is_skipped (left_from i 0 ks) i n ≡ is_left (at_unit ks u Stays)) (let e : 0 + u ≡ u = omega arith in e)
+    (left_listed i 0 ks u)
+
 pub skips_left : (units : ℕ) (i : ItemId) (d : Draft) → SkipsLeft units i (marks_in d) (left_from i 0 d.marks)
 skips_left units i d u small =
-    let listed : is_skipped (left_from i 0 d.marks) i u ≡ is_left (at_unit d.marks u Stays) =
-    subst (λ (n : ℕ). is_skipped (left_from i 0 d.marks) i n ≡ is_left (at_unit d.marks u Stays)) (let e : 0 + u ≡ u = omega arith in e)
-    (left_listed i 0 d.marks u) in
+    let listed = marks_left i d.marks u in
     let both = left_mark (at_unit d.marks u Stays) (content_in d.values u) in (
       (λ e. both.0 (sym listed ∙ e)),
       (λ e. listed ∙ both.1 e),

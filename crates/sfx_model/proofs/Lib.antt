@@ -54,3 +54,4 @@ pub mod Tasking
 pub mod Ranging
 pub mod Entailing
 pub mod Sourcing
+pub mod Batching
