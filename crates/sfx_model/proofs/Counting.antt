@@ -150,7 +150,7 @@ held_fits w s m i state ok there rep orderly is =
     other_tick other = rw (ne_eqb i.replica m.id other) refl
 
 -- Each item of a rising list is found.
-state_there : (items : List MemberItem) (x : MemberItem) → AreRising items → Has x items → state_of items x.id ≡ Some x.state
+pub state_there : (items : List MemberItem) (x : MemberItem) → AreRising items → Has x items → state_of items x.id ≡ Some x.state
 state_there [] x rising has = absurd has
 state_there (y ∷ ys) x rising has = elim has [
   | inl is ↦ subst (λ (z : MemberItem). state_of (y ∷ ys) z.id ≡ Some z.state) (sym is) (state_here y ys)

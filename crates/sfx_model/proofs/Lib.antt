@@ -55,3 +55,4 @@ pub mod Ranging
 pub mod Entailing
 pub mod Sourcing
 pub mod Batching
+pub mod Due
