@@ -45,7 +45,7 @@ use Rattle.sfx_model.proofs.Steps.{same_item_is, same_item_self}
 
 -- ---- lists
 
-has_filter : {A : Type 0} (test : A → Bool) (x : A) (xs : List A) → Has x xs → test x ≡ true → Has x (filter test xs)
+pub has_filter : {A : Type 0} (test : A → Bool) (x : A) (xs : List A) → Has x xs → test x ≡ true → Has x (filter test xs)
 has_filter test x [] has e = absurd has
 has_filter {A} test x (y ∷ ys) has e = by_test (λ there. has_filter test x ys there e) (test y) refl
   where
@@ -58,7 +58,7 @@ has_filter {A} test x (y ∷ ys) has e = by_test (λ there. has_filter test x ys
       | inr there ↦ rest there
     ]
 
-has_map : {A B : Type 0} (f : A → B) (x : A) (xs : List A) → Has x xs → Has (f x) (map f xs)
+pub has_map : {A B : Type 0} (f : A → B) (x : A) (xs : List A) → Has x xs → Has (f x) (map f xs)
 has_map f x [] has = absurd has
 has_map f x (y ∷ ys) has = elim has [ inl is ↦ inl (ap f is) | inr there ↦ inr (has_map f x ys there) ]
 
@@ -70,14 +70,14 @@ rising_filter test (x ∷ xs) rising = by_test (rising_filter test xs rising.1) 
     by_test rest true = (λ y has. rising.0 y (has_filtered test y xs has).1, rest)
     by_test rest false = rest
 
-abbrev item_with : ItemId → ItemState → MemberItem
+abbrev pub item_with : ItemId → ItemState → MemberItem
 item_with i state = record { id = i; state = state }
 
 item_is : (x : MemberItem) (i : ItemId) (state : ItemState) → x.id ≡ i → x.state ≡ state → item_with i state ≡ x
 item_is x i state same is = let e : item_with i state ≡ item_with x.id x.state = rw (same, is) refl in e
 
 -- An item that is found is in the list.
-state_has : (items : List MemberItem) (i : ItemId) (state : ItemState) → state_of items i ≡ Some state → Has (item_with i state) items
+pub state_has : (items : List MemberItem) (i : ItemId) (state : ItemState) → state_of items i ≡ Some state → Has (item_with i state) items
 state_has [] i state is = absurd (cc)
 state_has (x ∷ xs) i state is = by_test (state_has xs i state) (same_item x.id i) refl is
   where
@@ -131,7 +131,7 @@ not_less : (a b : ℕ) → nat_lt a b ≡ false → b ≤ a
 not_less a b e = grind (arith, nat_tests)
 
 -- An item of the range that was not seen is one of the changes.
-due_has :
+pub due_has :
     (units size : ℕ) (known : Known) (from : Cut) (items : List MemberItem) (x : MemberItem)
     → 1 ≤ size → AreRising items → Has x items → is_unseen units known x ≡ true
     → is_in from (due_end units size known from items) x.id ≡ true → Has x (due units size known from items)
@@ -207,7 +207,7 @@ listed_there lo hi items i state is within =
     (has_map (λ (x : MemberItem). x.id) (item_with i state) (filter (λ x. is_in lo hi x.id) items)
     (has_filter (λ (x : MemberItem). is_in lo hi x.id) (item_with i state) items (state_has items i state is) within))
 
-listed_not :
+pub listed_not :
     (lo hi : Cut) (items : List MemberItem) (i : ItemId)
     → AreRising items → state_of items i ≡ None → is_among (ids_in lo hi items) i ≡ false
 listed_not lo hi items i rising none =

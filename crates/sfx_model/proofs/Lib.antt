@@ -56,3 +56,4 @@ pub mod Entailing
 pub mod Sourcing
 pub mod Batching
 pub mod Due
+pub mod Beginning
