@@ -1,16 +1,21 @@
 -- The tasks of a batch one after another, and its range at the end.
-use Rattle.std.proofs.Common.{◌≡◌, ◌≢◌, ◌⊎◌, ℕ, ◌+◌, ◌<◌, ◌≤◌, ◌||◌, Bool, true, false, true≢false, if◌then◌else◌, List, [], ◌∷◌, ◌++◌, map, Option, Some, None, IsSomeAnd, arith, inl, inr, refl, sym, ◌∙◌, ap, subst}
+use Rattle.std.proofs.Common.{◌≡◌, ◌≢◌, ◌⊎◌, ℕ, ◌+◌, ◌<◌, ◌≤◌, max, ◌&&◌, ◌||◌, not, Bool, true, false, true≢false, if◌then◌else◌, List, [], ◌∷◌, ◌++◌, map, Option, Some, None, IsSomeAnd, arith, inl, inr, refl, sym, ◌∙◌, ap, subst, le_refl, le_trans}
 use Rattle.std.specs.Prelude.{slice_get}
-use Rattle.std.specs.List.{flat_map}
+use Rattle.std.specs.List.{flat_map, list_any}
 use Rattle.std.specs.Option.{option_map, option_and_then, option_or}
+use Rattle.std.proofs.lemmas.Bool.{cases_eq, eq-eqb, ne_eqb}
 use Rattle.std.proofs.lemmas.Grind.{flat_map-append}
 use Rattle.std.proofs.lemmas.List.{map-append}
 use Rattle.std.proofs.lemmas.Option.{slice_get-map}
+use Rattle.sfx_ids.specs.declared.cut.Cut.{Cut}
+use Rattle.sfx_ids.specs.declared.cut.Cut.TheVariants.{At, After}
 use Rattle.sfx_ids.specs.declared.item_id.ItemId.{ItemId}
 use Rattle.sfx_ids.specs.declared.version.Version.{Version}
+use Rattle.sfx_ids.specs.Cut.{is_between}
+use Rattle.sfx_segments.specs.Segments.{IsPlace}
 use Rattle.sfx_item.specs.declared.cell.Cell.{Cell}
-use Rattle.sfx_knowledge.specs.Knowledge.{tick_at}
-use Rattle.sfx_knowledge.specs.Skips.{same_cell, is_skipped}
+use Rattle.sfx_knowledge.specs.Knowledge.{Known, HasTicks, IsKnowledge, tick_at, laid_over, learned}
+use Rattle.sfx_knowledge.specs.Skips.{same_cell, is_skipped, is_skipped_at}
 use Rattle.sfx_knowledge.proofs.Compares.{Tested, yes_it, not_it, tested}
 use Rattle.sfx_knowledge.proofs.SkipForms.{cells_same}
 use Rattle.sfx_model.specs.declared.absent.Absent.{Absent}
@@ -32,9 +37,9 @@ use Rattle.sfx_model.specs.Clashes.{Plan, drafted_name, plan_of}
 use Rattle.sfx_model.specs.Consistent.{live_name}
 use Rattle.sfx_model.specs.Deeds.{version_behind, name_given, changed_first, task_deeds, range_deeds, go_deeds, deeds_or, seen_by, events_with}
 use Rattle.sfx_model.specs.Draft.{Draft, values_of, whole_draft, absent_draft, is_left}
-use Rattle.sfx_model.specs.Entry.{Task, Unlisted, Change, Entry, Changing, task_item, task_seen, task_draft, task_plan, unlisted_class, lacks, state_after, left_from, other_state, change_other, change_others, changed_by, after_task, entry_of}
+use Rattle.sfx_model.specs.Entry.{Task, Unlisted, Change, Entry, Changing, task_item, task_seen, task_draft, task_plan, unlisted_class, is_stamped, clock_after, lacks, state_after, left_from, other_state, change_other, change_others, changed_by, after_task, entry_of}
 use Rattle.sfx_model.specs.Knowing.{laid_known}
-use Rattle.sfx_model.specs.Members.{Member, MemberItem, ItemState, Live, Dead, Represents, ItemRepresents, shown, state_of}
+use Rattle.sfx_model.specs.Members.{Member, MemberItem, ItemState, Live, Dead, Represents, ItemRepresents, shown, state_of, vector_at}
 use Rattle.sfx_model.specs.Putting.{with_state_of}
 use Rattle.sfx_model.specs.Replica.{RepresentsReplica}
 use Rattle.sfx_model.specs.Rules.{Rules}
@@ -44,12 +49,14 @@ use Rattle.sfx_model.specs.States.{next_version}
 use Rattle.sfx_model.specs.Units.{at_unit}
 use Rattle.sfx_model.proofs.Drafted.{marks_left}
 use Rattle.sfx_model.proofs.Entailing.{task_learns}
+use Rattle.sfx_model.proofs.Learned.{laid_other}
 use Rattle.sfx_model.proofs.Naming.{IsNamed, apart_tests}
 use Rattle.sfx_model.proofs.Planning.{plan_others}
 use Rattle.sfx_model.proofs.Putting.{state_kept}
 use Rattle.sfx_model.proofs.Ranging.{range_acts}
 use Rattle.sfx_model.proofs.Sourcing.{IsFrom, Ready, ready_on, source_sound, source_carried, source_range, source_supplies}
 use Rattle.sfx_model.proofs.Stepping.{AllOf, Leaves, of_append, after_append, legal_append, all_leave}
+use Rattle.sfx_model.proofs.Storing.{stored_has}
 use Rattle.sfx_model.proofs.Tasking.{TaskActs, TaskFits, task_acts}
 
 -- ---- what a task leaves of the other items
@@ -80,6 +87,72 @@ task_id units b t p m = refl
 range_id : (units : ℕ) (b : Batch) (left : List (ItemId × ℕ)) (m : Member) → (after_range units b left m).id ≡ m.id
 unfolding after_range
 range_id units b left m = refl
+
+-- ---- what the destination knows only grows
+
+abbrev pub KnowsMore : ℕ → Member → Member → Type 0
+KnowsMore units m n = (place : Cut) (u r : ℕ) → IsPlace place → u < units → vector_at m place u r ≤ vector_at n place u r
+
+pub more_self : (units : ℕ) (m : Member) → KnowsMore units m m
+more_self units m place u r at small = le_refl (vector_at m place u r)
+
+pub more_on : (units : ℕ) (m n o : Member) → KnowsMore units m n → KnowsMore units n o → KnowsMore units m o
+more_on units m n o first second place u r at small = le_trans (first place u r at small) (second place u r at small)
+
+others_clock : (own : ℕ) (rule : Option ClashRule) (c : Changing) (js : List ItemId) → c.clock ≤ (change_others own rule c js).clock
+unfolding change_others
+others_clock own rule c [] = le_refl c.clock
+others_clock own rule c (j ∷ js) = let rest = others_clock own rule (change_other own rule j c) js in omega arith
+
+clock_grows : (marks : List Mark) (clock : ℕ) → clock ≤ clock_after marks clock
+clock_grows marks clock = by_test (list_any is_stamped marks)
+  where
+    by_test : (b : Bool) → clock ≤ (if b then clock + 1 else clock)
+    by_test true = omega arith
+    by_test false = le_refl clock
+
+-- Learning, with the own clock no lower, is knowing more.
+learned_more :
+    (units : ℕ) (m n : Member) (lo hi : Cut) (skipped : List (ItemId × ℕ)) (there : Known)
+    → n.id ≡ m.id → m.clock ≤ n.clock
+    → HasTicks units n.knowledge (laid_over m.id 0 (learned lo hi skipped (tick_at m.knowledge) (tick_at there)))
+    → KnowsMore units m n
+learned_more units m n lo hi skipped there same clock has place u r at small =
+    elim (cases_eq r m.id) [
+      | inl own ↦ rw (eq-eqb r m.id own, eq-eqb r n.id (own ∙ sym same)) clock
+      | inr other ↦
+          rw (ne_eqb r m.id other, ne_eqb r n.id (λ e. other (e ∙ same)))
+          (subst (λ (t : ℕ). tick_at m.knowledge place u r ≤ t)
+          (sym (has place u r at small ∙ laid_other m.id 0 (learned lo hi skipped (tick_at m.knowledge) (tick_at there)) place u r other))
+          (by_test (is_between lo hi place && not (is_skipped_at skipped place u)) (tick_at m.knowledge place u r) (tick_at there place u r)))
+    ]
+  where
+    by_test : (b : Bool) (x y : ℕ) → x ≤ (if b then max x y else x)
+    by_test true x y = omega arith
+    by_test false x y = le_refl x
+
+task_more :
+    (units : ℕ) (b : Batch) (t : Task) (p : Plan) (m : Member)
+    → IsOrderly units m → IsKnowledge units b.made_with → KnowsMore units m (after_task units b t p m)
+unfolding after_task changed_by
+task_more units b t p m orderly form =
+    learned_more units m (after_task units b t p m) (At (task_item t)) (After (task_item t)) (left_from (task_item t) 0 p.draft.marks) b.made_with refl
+    (le_trans (clock_grows p.draft.marks m.clock) (others_clock m.id p.acts (changed_first units t p m) p.others))
+    (stored_has units m.id (At (task_item t)) (After (task_item t)) (left_from (task_item t) 0 p.draft.marks) m.knowledge b.made_with orderly.some orderly.id orderly.knowledge form)
+
+range_more :
+    (units : ℕ) (b : Batch) (left : List (ItemId × ℕ)) (m : Member)
+    → IsOrderly units m → IsKnowledge units b.made_with → KnowsMore units m (after_range units b left m)
+unfolding after_range
+range_more units b left m orderly form =
+    learned_more units m (after_range units b left m) b.from b.to left b.made_with refl (le_refl m.clock)
+    (stored_has units m.id b.from b.to left m.knowledge b.made_with orderly.some orderly.id orderly.knowledge form)
+
+made_form :
+    (w : World) (units : ℕ) (source m : Member) (snapshot : Site) (b : Batch)
+    → Ready w units source m snapshot → IsOrderly units source → IsFrom units source b → IsKnowledge units b.made_with
+made_form w units source m snapshot b ready theirs from =
+    subst (λ (n : ℕ). IsKnowledge n b.made_with) ready.count (source_supplies w units source m snapshot b ready theirs from).made_with
 
 -- Others are held here.
 others_held :
@@ -404,9 +477,10 @@ acts_none w units source m snapshot ready = record {
 }
 
 -- What the batch does from here on.
-pub record GoesOn (w : World) (es : List Event) (m n : Member) : Type 0 where
+pub record GoesOn (w : World) (units : ℕ) (es : List Event) (m n : Member) : Type 0 where
   pub acts : TaskActs w es m n
   pub id : n.id ≡ m.id
+  pub more : KnowsMore units m n
 
 first_acts :
     (w : World) (units : ℕ) (source : Member) (snapshot : Site) (b : Batch) (rules : Rules) (p : Progress) (t : Task) (ts : List Task)
@@ -454,11 +528,12 @@ pub go_acts :
     (w : World) (units : ℕ) (source : Member) (snapshot : Site) (b : Batch) (rules : Rules) (p : Progress) (ts : List Task)
     → source.id ≢ p.member.id → Ready w units source p.member snapshot → IsOrderly units source → IsFrom units source b
     → AllFit source b p.member ts → RangeSoFar w b p.member snapshot (lefts p.entries) ts
-    → GoesOn w (events_with snapshot (go_deeds units b rules p ts)) p.member (go units b rules p ts).member
+    → GoesOn w units (events_with snapshot (go_deeds units b rules p ts)) p.member (go units b rules p ts).member
 unfolding go go_deeds
 go_acts w units source snapshot b rules p [] apart ready theirs from fit so_far = record {
   acts = last_acts w units source snapshot b p ready theirs from so_far;
   id = range_id units b (lefts p.entries) p.member;
+  more = range_more units b (lefts p.entries) p.member ready.orderly (made_form w units source p.member snapshot b ready theirs from);
 }
 go_acts w units source snapshot b rules p (t ∷ ts) apart ready theirs from fit so_far =
     by_stop
@@ -487,11 +562,11 @@ go_acts w units source snapshot b rules p (t ∷ ts) apart ready theirs from fit
     q = with_entry units b t (is_more ts) (task_plan units rules b p.member t) p
 
     by_stop :
-        (lacks plan p.member.clock ≡ false → GoesOn (after_all w es) (events_with snapshot (go_deeds units b rules q ts)) n (go units b rules q ts).member)
+        (lacks plan p.member.clock ≡ false → GoesOn (after_all w es) units (events_with snapshot (go_deeds units b rules q ts)) n (go units b rules q ts).member)
         → (o : Option ApplyEnd) → stop_before p.budget plan p.member ≡ o
-        → GoesOn w (events_with snapshot (deeds_or o (task_deeds units b t plan p.member ++ go_deeds units b rules q ts))) p.member
+        → GoesOn w units (events_with snapshot (deeds_or o (task_deeds units b t plan p.member ++ go_deeds units b rules q ts))) p.member
         (stop_or o p (go units b rules q ts)).member
-    by_stop rest (Some end) e = record { acts = acts_none w units source p.member snapshot ready; id = refl }
+    by_stop rest (Some end) e = record { acts = acts_none w units source p.member snapshot ready; id = refl; more = more_self units p.member }
     by_stop rest None e =
         let enough = not_stopped p.budget plan p.member e in
         let acts = first_acts w units source snapshot b rules p t ts ready theirs from fit enough in
@@ -505,4 +580,6 @@ go_acts w units source snapshot b rules p (t ∷ ts) apart ready theirs from fit
           acts = subst (λ (xs : List Event). TaskActs w xs p.member (go units b rules q ts).member) (sym whole)
               (acts_on w es (events_with snapshot (go_deeds units b rules q ts)) p.member n (go units b rules q ts).member acts next.acts same leaves.count);
           id = next.id ∙ same;
+          more = more_on units p.member n (go units b rules q ts).member
+              (task_more units b t plan p.member ready.orderly (made_form w units source p.member snapshot b ready theirs from)) next.more;
         }
