@@ -57,3 +57,4 @@ pub mod Sourcing
 pub mod Batching
 pub mod Due
 pub mod Beginning
+pub mod Sessioning
