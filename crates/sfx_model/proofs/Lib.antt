@@ -58,3 +58,5 @@ pub mod Batching
 pub mod Due
 pub mod Beginning
 pub mod Sessioning
+pub mod Stating
+pub mod Sourced
