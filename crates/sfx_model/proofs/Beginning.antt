@@ -248,10 +248,13 @@ due_so_far w units source mode size m snapshot from some ready theirs forgotten 
         by_kept local true is kept =
             inr (inl (kept_known w units source m snapshot b [] i local ready theirs (due_from units source mode size m from) e kept))
         by_kept local false is kept =
-            inl (Unlisted i,
-            subst (λ (k : Mode). Has (Unlisted i) (tasks_of units (due_batch units source k size m from) m)) (sym same)
-            (unlisted_pending units source size m from i local theirs e is at
-            (ap is_kept (sym (due_class units source mode size m from (item_with i local))) ∙ kept)), refl)
+            inl (
+              Unlisted i,
+              subst (λ (k : Mode). Has (Unlisted i) (tasks_of units (due_batch units source k size m from) m)) (sym same)
+                  (unlisted_pending units source size m from i local theirs e is at
+                  (ap is_kept (sym (due_class units source mode size m from (item_with i local))) ∙ kept)),
+              refl,
+            )
 
         by_local :
             (o : Option ItemState)
@@ -267,9 +270,12 @@ due_so_far w units source mode size m snapshot from some ready theirs forgotten 
         → state_of source.items i ≡ Some state → is_unseen units (laid_known units m) (item_with i state) ≡ c
         → IsPending i (tasks_of units b m) ⊎ (IsKnownNow w m.id snapshot [] i ⊎ IsGoneNow b m snapshot [] i)
     by_seen state true e news =
-        inl (Change (item_with i state),
-        change_pending units source mode size m from (item_with i state)
-        (due_has units size (laid_known units m) from source.items (item_with i state) some theirs.rising (state_has source.items i state e) news at), refl)
+        inl (
+          Change (item_with i state),
+          change_pending units source mode size m from (item_with i state)
+              (due_has units size (laid_known units m) from source.items (item_with i state) some theirs.rising (state_has source.items i state e) news at),
+          refl,
+        )
     by_seen state false e seen =
         inr (inl (seen_known w units source m snapshot b [] i state ready theirs (due_from units source mode size m from) e seen))
 

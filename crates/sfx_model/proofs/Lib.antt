@@ -60,3 +60,4 @@ pub mod Beginning
 pub mod Sessioning
 pub mod Stating
 pub mod Sourced
+pub mod Concluding

@@ -1,23 +1,27 @@
 -- What is asked of a member that takes part in sessions, and what is said of events that it does one after
 -- another.
 use Rattle.std.specs.Prelude.{◌≡◌, ◌⊎◌, ℕ, ◌<◌, ◌≤◌, ◌^◌, true, false, List, IsSomeAnd}
+use Rattle.sfx_ids.specs.declared.cut.Cut.{Cut}
 use Rattle.sfx_ids.specs.declared.cut.Cut.TheVariants.{Start, At, End}
 use Rattle.sfx_ids.specs.declared.item_id.ItemId.{ItemId}
+use Rattle.sfx_ids.specs.Cut.{is_between}
 use Rattle.sfx_ids.specs.Tick.{max_tick}
+use Rattle.sfx_segments.specs.Segments.{IsPlace}
 use Rattle.sfx_vector.specs.Clocks.{tick_of}
 use Rattle.sfx_knowledge.specs.Knowledge.{IsKnowledge}
 use Rattle.sfx_knowledge.specs.Forgotten.{AreForgets, fvec}
 use Rattle.sfx_knowledge.specs.Skips.{is_skipped}
-use Rattle.sfx_model.specs.declared.mode.Mode.TheVariants.{Recover}
+use Rattle.sfx_model.specs.declared.mode.Mode.TheVariants.{Normal, Recover}
 use Rattle.sfx_model.specs.declared.mark.Mark.TheVariants.{Stays}
-use Rattle.sfx_model.specs.Sets.{IsPart}
-use Rattle.sfx_model.specs.Batch.{Batch}
+use Rattle.sfx_model.specs.Sets.{Has, IsPart}
+use Rattle.sfx_model.specs.Batch.{Batch, batch_from}
 use Rattle.sfx_model.specs.Consistent.{AreApart}
 use Rattle.sfx_model.specs.Deeds.{events_with, range_deeds, task_deeds}
 use Rattle.sfx_model.specs.Draft.{Draft, is_left}
 use Rattle.sfx_model.specs.Entry.{Task, after_task, lacks, task_plan}
-use Rattle.sfx_model.specs.Events.{Event, AllLegal, after_all, is_in, site_of, IsKnownHere}
-use Rattle.sfx_model.specs.Members.{Member, AreRising, shown}
+use Rattle.sfx_model.specs.Events.{Event, AllLegal, after_all, Deed, AreLegalDeeds, after_deeds, is_in, site_of, IsKnownHere}
+use Rattle.sfx_model.specs.Knowing.{laid_known}
+use Rattle.sfx_model.specs.Members.{Community, Member, NamedMember, AreRising, RepresentsWorld, shown, vector_at}
 use Rattle.sfx_model.specs.Replica.{RepresentsReplica}
 use Rattle.sfx_model.specs.Results.{BacksForgotten}
 use Rattle.sfx_model.specs.Rules.{Rules}
@@ -87,3 +91,35 @@ abbrev pub LearnsItem : World → ℕ → Snapshot → ItemId → Draft → Type
 LearnsItem w r snapshot i draft =
     IsSomeAnd (site_of w.sites r)
     (λ s. (u : ℕ) → is_left (at_unit draft.marks u Stays) ≡ false → IsPart (snapshot.known i u) (s.known i u))
+
+-- The batch is the one that is due from the source to this destination, from its place on, in its mode, for
+-- so many changes.
+abbrev pub IsDue : ℕ → Member → Member → ℕ → Batch → Type 0
+IsDue units source m size b = b ≡ batch_from units source b.mode size (laid_known units m) b.from
+
+-- In mode Normal the destination knows the batch's forgotten deletions at every place of the range and every
+-- unit.
+abbrev pub KnowsForgotten : ℕ → Batch → Member → Type 0
+KnowsForgotten units b m =
+    (place : Cut) (u r : ℕ) → b.mode ≡ Normal → IsPlace place → is_between b.from b.to place ≡ true → u < units →
+    tick_of (fvec b.forgotten place) r ≤ vector_at m place u r
+
+-- The deeds may happen one after another in the world, and the world after them is well-formed; there the
+-- source still represents its site, and so does the member at the site of the replica with this id, with its
+-- lists in order.
+pub record DeedsActIn (w : World) (deeds : List Deed) (source : Member) (r : ℕ) (m : Member) : Type 0 where
+  pub legal : AreLegalDeeds w deeds
+  pub well_formed : WellFormed (after_deeds w deeds)
+  pub stays : RepresentsReplica (after_deeds w deeds) source.id (shown source)
+  pub represents : RepresentsReplica (after_deeds w deeds) r (shown m)
+  pub orderly : IsOrderly w.units m
+
+-- The same of a state of all members.
+pub record DeedsContinue (w : World) (deeds : List Deed) (c : Community) : Type 0 where
+  pub legal : AreLegalDeeds w deeds
+  pub well_formed : WellFormed (after_deeds w deeds)
+  pub represents : RepresentsWorld (after_deeds w deeds) c
+
+-- The member is one of the state's.
+abbrev pub IsMemberOf : Community → Member → Type 0
+IsMemberOf c m = (x : NamedMember) × Has x c.members × (x.member ≡ m)

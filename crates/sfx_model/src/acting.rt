@@ -1,16 +1,18 @@
-ghost use Rattle.std.specs.Prelude.{◌≡◌, ℕ, List, IsSomeAnd, None, Some};
+ghost use Rattle.std.specs.Prelude.{◌≡◌, ◌≢◌, ℕ, ◌≤◌, List, IsSomeAnd, Option, None, Some};
 ghost use Rattle.sfx_ids.specs.declared.item_id.ItemId.{ItemId};
 ghost use Rattle.sfx_knowledge.specs.Knowledge.{tick_at};
-ghost use Rattle.sfx_model.specs.Acting.{EntryActs, HasTicksLeft, IsOrderly, LearnsItem, RangeActs, RangeFits, Supplies};
+ghost use Rattle.sfx_model.specs.Acting.{DeedsActIn, DeedsContinue, EntryActs, HasTicksLeft, IsDue, IsMemberOf, IsOrderly, KnowsForgotten, LearnsItem, RangeActs, RangeFits, Supplies};
 ghost use Rattle.sfx_model.specs.Batch.{Batch};
-ghost use Rattle.sfx_model.specs.Deeds.{events_with, task_deeds};
+ghost use Rattle.sfx_model.specs.Deeds.{batch_deeds, events_with, session_deeds, task_deeds};
 ghost use Rattle.sfx_model.specs.Entry.{Change, Task, Unlisted, task_item, task_plan};
 ghost use Rattle.sfx_model.specs.Events.{after_all, site_of};
-ghost use Rattle.sfx_model.specs.Members.{ItemState, Member, MemberItem, shown, state_of};
+ghost use Rattle.sfx_model.specs.Members.{Community, ItemState, Member, MemberItem, RepresentsWorld, shown, state_of};
 ghost use Rattle.sfx_model.specs.Replica.{RepresentsReplica};
 ghost use Rattle.sfx_model.specs.Results.{BacksRange};
 ghost use Rattle.sfx_model.specs.Rules.{Rules};
+ghost use Rattle.sfx_model.specs.Session.{applied, session_of};
 ghost use Rattle.sfx_model.specs.Snapshots.{Carried};
+ghost use Rattle.sfx_model.specs.States.{ChangesMember};
 ghost use Rattle.sfx_model.specs.World.{IsSound, Snapshot, WellFormed, World};
 ghost use Rattle.sfx_model.specs.declared.mode.Mode.TheVariants.{Recover};
 
@@ -50,4 +52,38 @@ pub fn ranges_act()
         IsSound w snapshot → BacksRange w snapshot b.from b.to (tick_at b.made_with) →
         IsSomeAnd (site_of w.sites m.id) (λ s. RangeFits s snapshot b left) →
         RangeActs w snapshot b left m }
+{}
+
+/// What applying a batch does in every well-formed world in which source and destination represent their
+/// sites, as a law: where the batch is the one that is due from the source, its deeds may happen one after
+/// another, and the world after them is well-formed; there the source still represents its site, and so
+/// does the destination as it is then, with its lists in order and live names that do not clash. It holds
+/// however the batch ends: whole, cut, or for want of ticks. It does nothing when called.
+pub fn batches_act()
+    ensures { (w : World) (source m : Member) (b : Batch) (rules : Rules) (size : ℕ) (budget : Option ℕ) →
+        WellFormed w → source.id ≢ m.id →
+        RepresentsReplica w source.id (shown source) → RepresentsReplica w m.id (shown m) →
+        IsOrderly w.units source → IsOrderly w.units m →
+        1 ≤ size → IsDue w.units source m size b → KnowsForgotten w.units b m →
+        DeedsActIn w (batch_deeds w.units b rules budget m) source m.id (applied w.units b rules budget m).member }
+{}
+
+/// What a session does in every well-formed world in which source and destination represent their sites, as
+/// a law: its deeds may happen one after another, and the world after them is well-formed. It holds under
+/// every rule and however the session ends. It does nothing when called.
+///
+/// `session`: afterwards the source still represents its site, and so does the destination as it is then,
+/// with its lists in order and live names that do not clash. `state`: a state of all members of which source
+/// and destination are two represents the world again.
+pub fn sessions_act()
+    ensures session { (w : World) (source m : Member) (rules : Rules) (size : ℕ) (cut : Option ℕ) →
+        WellFormed w → source.id ≢ m.id →
+        RepresentsReplica w source.id (shown source) → RepresentsReplica w m.id (shown m) →
+        IsOrderly w.units source → IsOrderly w.units m → 1 ≤ size →
+        DeedsActIn w (session_deeds w.units source m rules size cut) source m.id (session_of w.units source m rules size cut).course.member }
+    ensures state { (w : World) (c d : Community) (source m : Member) (rules : Rules) (size : ℕ) (cut : Option ℕ) →
+        WellFormed w → RepresentsWorld w c → source.id ≢ m.id → IsMemberOf c source →
+        ChangesMember m (session_of w.units source m rules size cut).course.member c d →
+        IsOrderly w.units source → IsOrderly w.units m → 1 ≤ size →
+        DeedsContinue w (session_deeds w.units source m rules size cut) d }
 {}
