@@ -40,7 +40,7 @@ has_middle [] back m = inl refl
 has_middle (x ∷ xs) back m = inr (has_middle xs back m)
 
 -- One member and its site are replaced, in the middle of both lists.
-replaced :
+pub replaced :
     (w x : World) (ss : List Site) (front back : List NamedMember) (m n : NamedMember) (new : Site)
     → AreDistinct ss → m.member.id ≡ new.id
     → ((s : Site) (y : NamedMember) → Has s ss → s.id ≢ new.id → RepresentsNamed w s y → RepresentsNamed x s y)

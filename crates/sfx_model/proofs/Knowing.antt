@@ -42,7 +42,7 @@ all_pass : (test : ℕ → Bool) (rs : List ℕ) → ((r : ℕ) → test r ≡ t
 all_pass test [] each = refl
 all_pass test (x ∷ xs) each = and-true (test x) (list_all test xs) (each x) (all_pass test xs each)
 
-within_is : (clocks : Clocks) (known : Known) (place : Cut) (u : ℕ) → is_within clocks known place u ≡ true
+pub within_is : (clocks : Clocks) (known : Known) (place : Cut) (u : ℕ) → is_within clocks known place u ≡ true
     → (r : ℕ) → tick_of clocks r ≤ tick_at known place u r
 within_is clocks known place u all r = elim (tested (is_listed (listed_in clocks) r)) [
   | yes_it listed ↦ le-is (tick_of clocks r) (tick_at known place u r)

@@ -10,7 +10,7 @@ use Rattle.sfx_model.proofs.Steps.{same_item_is}
 use Rattle.sfx_model.proofs.Rising.{ids_compared, before_trans, state_here, state_behind}
 
 -- What the test of order finds.
-below_is : (a b : ItemId) → is_id_below a b ≡ true → IsIdBelow a b
+pub below_is : (a b : ItemId) → is_id_below a b ≡ true → IsIdBelow a b
 below_is a b e =
     elim (or_cases (nat_lt a.tick b.tick) (nat_eq a.tick b.tick && nat_lt a.replica b.replica) e) [
       | inl less ↦ inl (ltb-true a.tick b.tick less)
@@ -30,7 +30,7 @@ is_below a b below =
     ]
 
 -- Where it fails on two ids, the other one comes before.
-above_is : (a b : ItemId) → is_id_below a b ≡ false → a ≢ b → IsIdBelow b a
+pub above_is : (a b : ItemId) → is_id_below a b ≡ false → a ≢ b → IsIdBelow b a
 above_is a b e apart =
     elim (ids_compared a b) [
       | inl same ↦ absurd (apart same)
@@ -68,7 +68,7 @@ with_has x (z ∷ zs) y has = by_test (with_has x zs y) (is_id_below z.id x.id) 
     by_test rest false h = h
 
 -- An item before the head of a rising list is before all of it.
-before_all :
+pub before_all :
     (i : ItemId) (z : MemberItem) (zs : List MemberItem)
     → IsIdBelow i z.id → AreRising (z ∷ zs) → (y : MemberItem) → Has y (z ∷ zs) → IsIdBelow i y.id
 before_all i z zs below rising y has =

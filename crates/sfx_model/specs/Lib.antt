@@ -25,3 +25,5 @@ pub mod Entry
 pub mod Moments
 pub mod Session
 pub mod SessionExamples
+pub mod Deeds
+pub mod Acting

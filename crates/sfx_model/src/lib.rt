@@ -3,6 +3,7 @@
 #![tactic(auto)]
 
 pub use absent::Absent;
+pub use acting::{batches_act, entries_act, ranges_act, sessions_act};
 pub use apply_end::ApplyEnd;
 pub use clash_rule::ClashRule;
 pub use entry_kind::EntryKind;
@@ -21,6 +22,7 @@ pub use unit_class::UnitClass;
 pub use world::{events_keep, examples, marks_agree, short_run};
 
 mod absent;
+mod acting;
 mod apply_end;
 mod clash_rule;
 mod entry_kind;

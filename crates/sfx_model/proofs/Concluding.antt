@@ -1,0 +1,146 @@
+-- What batches and sessions do, in the words of the laws.
+use Rattle.std.proofs.Common.{◌≡◌, ◌≢◌, ℕ, ◌+◌, ◌≤◌, true, List, length, Option, Some, refl, sym, ◌∙◌, ap, subst}
+use Rattle.sfx_ids.specs.declared.cut.Cut.TheVariants.{Start, At}
+use Rattle.sfx_vector.specs.Clocks.{tick_of}
+use Rattle.sfx_knowledge.specs.Forgotten.{fvec}
+use Rattle.sfx_model.specs.declared.mode.Mode.{Mode}
+use Rattle.sfx_model.specs.declared.mode.Mode.TheVariants.{Normal, Recover}
+use Rattle.sfx_model.specs.World.{World, Site, WellFormed}
+use Rattle.sfx_model.specs.Events.{Deed, site_of, is_in}
+use Rattle.sfx_model.specs.Acting.{IsOrderly, IsDue, KnowsForgotten, DeedsActIn, DeedsContinue, IsMemberOf}
+use Rattle.sfx_model.specs.Batch.{Batch, mode_of}
+use Rattle.sfx_model.specs.Deeds.{batch_deeds, session_deeds, events_with}
+use Rattle.sfx_model.specs.Knowing.{laid_known}
+use Rattle.sfx_model.specs.Members.{Member, Community, RepresentsWorld, Represents, shown, vector_at}
+use Rattle.sfx_model.specs.Replica.{RepresentsReplica}
+use Rattle.sfx_model.specs.Rules.{Rules}
+use Rattle.sfx_model.specs.Session.{applied, session_of, set_out}
+use Rattle.sfx_model.specs.States.{ChangesMember}
+use Rattle.sfx_model.proofs.Batching.{GoesOn}
+use Rattle.sfx_model.proofs.Beginning.{ForgottenKnown}
+use Rattle.sfx_model.proofs.Communities.{member_site}
+use Rattle.sfx_model.proofs.Due.{due_batch, due_from}
+use Rattle.sfx_model.proofs.Headline.{named_site}
+use Rattle.sfx_model.proofs.Sessioning.{due_acts, mode_known, session_acts}
+use Rattle.sfx_model.proofs.Sites.{site_there}
+use Rattle.sfx_model.proofs.Sourced.{AllName, deeds_are, batch_names, session_names}
+use Rattle.sfx_model.proofs.Sourcing.{Ready, ready_on}
+use Rattle.sfx_model.proofs.Stating.{all_state}
+
+-- Both members represent their sites at the start.
+both_ready :
+    (w : World) (source m : Member) (snapshot : Site)
+    → WellFormed w → site_of w.sites source.id ≡ Some snapshot → RepresentsReplica w source.id (shown source)
+    → RepresentsReplica w m.id (shown m) → IsOrderly w.units m → Ready w w.units source m snapshot
+both_ready w source m snapshot ok at (s, at_s, rep) stands orderly =
+    let same : s ≡ snapshot = let both : Some s ≡ Some snapshot = sym at_s ∙ at in cc in
+    record {
+      ok = ok;
+      count = refl;
+      at = at;
+      theirs = subst (λ (x : Site). Represents w x (shown source)) same rep;
+      stands = stands;
+      orderly = orderly;
+    }
+
+-- What goes on in events goes on in deeds.
+deeds_act :
+    (w : World) (source m n : Member) (snapshot : Site) (ds : List Deed)
+    → source.id ≢ m.id → Ready w w.units source m snapshot → AllName source.id ds
+    → GoesOn w w.units (events_with snapshot ds) m n → DeedsActIn w ds source m.id n
+deeds_act w source m n snapshot ds apart ready named goes =
+    let are = deeds_are w source.id m.id snapshot ds (λ e. apart (sym e)) ready.ok ready.at named goes.acts.legal goes.acts.of in
+    let next = ready_on w w.units source m n snapshot (events_with snapshot ds) apart ready goes.acts goes.id in
+    record {
+      legal = are.legal;
+      well_formed = subst WellFormed (sym are.after) next.ok;
+      stays = subst (λ (x : World). RepresentsReplica x source.id (shown source)) (sym are.after) (snapshot, next.at, next.theirs);
+      represents = subst (λ (x : World). RepresentsReplica x m.id (shown n)) (sym are.after) goes.acts.stands;
+      orderly = goes.acts.orderly;
+    }
+
+-- ---- a batch
+
+forgotten_in :
+    (units : ℕ) (source m : Member) (b : Batch) (mode : Mode)
+    → b.mode ≡ mode → b.forgotten ≡ source.forgotten → KnowsForgotten units b m
+    → ForgottenKnown units mode source m (λ i. is_in b.from b.to i ≡ true)
+forgotten_in units source m b Normal is same known =
+    λ i within u r small. subst (λ f. tick_of (fvec f (At i)) r ≤ vector_at m (At i) u r) same (known (At i) u r is tt within small)
+forgotten_in units source m b Recover is same known = tt
+
+pub batch_acts :
+    (w : World) (source m : Member) (b : Batch) (rules : Rules) (size : ℕ) (budget : Option ℕ)
+    → WellFormed w → source.id ≢ m.id → RepresentsReplica w source.id (shown source) → RepresentsReplica w m.id (shown m)
+    → IsOrderly w.units source → IsOrderly w.units m → 1 ≤ size → IsDue w.units source m size b → KnowsForgotten w.units b m
+    → DeedsActIn w (batch_deeds w.units b rules budget m) source m.id (applied w.units b rules budget m).member
+batch_acts w source m b rules size budget ok apart (snapshot, at, rep) stands theirs ours some due known =
+    let ready = both_ready w source m snapshot ok at (snapshot, at, rep) stands ours in
+    let from = due_from w.units source b.mode size m b.from in
+    let forgotten : b.forgotten ≡ source.forgotten = ap (λ (x : Batch). x.forgotten) due ∙ from.forgotten in
+    let named : b.source ≡ source.id = ap (λ (x : Batch). x.source) due ∙ from.source_is in
+    let in_range : ForgottenKnown w.units b.mode source m
+    (λ i. is_in (due_batch w.units source b.mode size m b.from).from (due_batch w.units source b.mode size m b.from).to i ≡ true) =
+    subst (λ (x : Batch). ForgottenKnown w.units b.mode source m (λ i. is_in x.from x.to i ≡ true)) due
+    (forgotten_in w.units source m b b.mode refl forgotten known) in
+    let goes : GoesOn w w.units (events_with snapshot (batch_deeds w.units b rules budget m)) m (applied w.units b rules budget m).member =
+    subst (λ (x : Batch). GoesOn w w.units (events_with snapshot (batch_deeds w.units x rules budget m)) m (applied w.units x rules budget m).member) (sym due)
+    (due_acts w w.units source snapshot b.mode rules size budget m b.from some apart ready theirs in_range) in
+    deeds_act w source m (applied w.units b rules budget m).member snapshot (batch_deeds w.units b rules budget m) apart ready
+    (batch_names w.units b rules budget m source.id named) goes
+
+-- ---- a session
+
+session_goes :
+    (w : World) (source m : Member) (snapshot : Site) (rules : Rules) (size : ℕ) (cut : Option ℕ)
+    → source.id ≢ m.id → Ready w w.units source m snapshot → IsOrderly w.units source → 1 ≤ size
+    → GoesOn w w.units (events_with snapshot (session_deeds w.units source m rules size cut)) m (session_of w.units source m rules size cut).course.member
+unfolding session_of
+session_goes w source m snapshot rules size cut apart ready theirs some =
+    session_acts (length source.items + 1) w w.units source snapshot (mode_of w.units source.forgotten (laid_known w.units m)) rules size
+    (set_out cut m) Start some apart ready theirs (mode_known w.units source m theirs ready.orderly)
+
+pub whole_session_acts :
+    (w : World) (source m : Member) (rules : Rules) (size : ℕ) (cut : Option ℕ)
+    → WellFormed w → source.id ≢ m.id → RepresentsReplica w source.id (shown source) → RepresentsReplica w m.id (shown m)
+    → IsOrderly w.units source → IsOrderly w.units m → 1 ≤ size
+    → DeedsActIn w (session_deeds w.units source m rules size cut) source m.id (session_of w.units source m rules size cut).course.member
+whole_session_acts w source m rules size cut ok apart (snapshot, at, rep) stands theirs ours some =
+    let ready = both_ready w source m snapshot ok at (snapshot, at, rep) stands ours in
+    deeds_act w source m (session_of w.units source m rules size cut).course.member snapshot (session_deeds w.units source m rules size cut) apart ready
+    (session_names (length source.items + 1) w.units source (mode_of w.units source.forgotten (laid_known w.units m)) rules size (set_out cut m) Start)
+    (session_goes w source m snapshot rules size cut apart ready theirs some)
+
+-- ---- a state of all members
+
+member_stands :
+    (w : World) (c : Community) (m : Member) → WellFormed w → RepresentsWorld w c → IsMemberOf c m → RepresentsReplica w m.id (shown m)
+member_stands w c m ok rep (x, has, is) =
+    let (s, there, named) = named_site w w.sites c.members x rep.members has in
+    let stands : RepresentsReplica w x.member.id (shown x.member) =
+    (s, subst (λ (r : ℕ). site_of w.sites r ≡ Some s) (sym named.represents.header.id) (site_there w.sites s ok.distinct there), named.represents) in
+    subst (λ (y : Member). RepresentsReplica w y.id (shown y)) is stands
+
+pub session_state :
+    (w : World) (c d : Community) (source m : Member) (rules : Rules) (size : ℕ) (cut : Option ℕ)
+    → WellFormed w → RepresentsWorld w c → source.id ≢ m.id → IsMemberOf c source
+    → ChangesMember m (session_of w.units source m rules size cut).course.member c d
+    → IsOrderly w.units source → IsOrderly w.units m → 1 ≤ size
+    → DeedsContinue w (session_deeds w.units source m rules size cut) d
+session_state w c d source m rules size cut ok rep apart there changes theirs ours some =
+    let (snapshot, at, stands) = member_stands w c source ok rep there in
+    let (s, is) = member_site w c d m (session_of w.units source m rules size cut).course.member ok rep changes in
+    let ready = both_ready w source m snapshot ok at (snapshot, at, stands) (s, is.at, is.represents) ours in
+    let goes = session_goes w source m snapshot rules size cut apart ready theirs some in
+    let named = session_names (length source.items + 1) w.units source (mode_of w.units source.forgotten (laid_known w.units m)) rules size (set_out cut m) Start in
+    let are = deeds_are w source.id m.id snapshot (session_deeds w.units source m rules size cut) (λ e. apart (sym e)) ok at named goes.acts.legal goes.acts.of in
+    let next = ready_on w w.units source m (session_of w.units source m rules size cut).course.member snapshot
+    (events_with snapshot (session_deeds w.units source m rules size cut)) apart ready goes.acts goes.id in
+    record {
+      legal = are.legal;
+      well_formed = subst WellFormed (sym are.after) next.ok;
+      represents = subst (λ (x : World). RepresentsWorld x d) (sym are.after)
+          (all_state w (events_with snapshot (session_deeds w.units source m rules size cut)) c d m
+          (session_of w.units source m rules size cut).course.member s ok rep goes.acts.legal goes.acts.of changes
+          goes.acts.orderly.rising is.at goes.acts.stands);
+    }

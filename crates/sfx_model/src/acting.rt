@@ -1,0 +1,89 @@
+ghost use Rattle.std.specs.Prelude.{◌≡◌, ◌≢◌, ℕ, ◌≤◌, List, IsSomeAnd, Option, None, Some};
+ghost use Rattle.sfx_ids.specs.declared.item_id.ItemId.{ItemId};
+ghost use Rattle.sfx_knowledge.specs.Knowledge.{tick_at};
+ghost use Rattle.sfx_model.specs.Acting.{DeedsActIn, DeedsContinue, EntryActs, HasTicksLeft, IsDue, IsMemberOf, IsOrderly, KnowsForgotten, LearnsItem, RangeActs, RangeFits, Supplies};
+ghost use Rattle.sfx_model.specs.Batch.{Batch};
+ghost use Rattle.sfx_model.specs.Deeds.{batch_deeds, events_with, session_deeds, task_deeds};
+ghost use Rattle.sfx_model.specs.Entry.{Change, Task, Unlisted, task_item, task_plan};
+ghost use Rattle.sfx_model.specs.Events.{after_all, site_of};
+ghost use Rattle.sfx_model.specs.Members.{Community, ItemState, Member, MemberItem, RepresentsWorld, shown, state_of};
+ghost use Rattle.sfx_model.specs.Replica.{RepresentsReplica};
+ghost use Rattle.sfx_model.specs.Results.{BacksRange};
+ghost use Rattle.sfx_model.specs.Rules.{Rules};
+ghost use Rattle.sfx_model.specs.Session.{applied, session_of};
+ghost use Rattle.sfx_model.specs.Snapshots.{Carried};
+ghost use Rattle.sfx_model.specs.States.{ChangesMember};
+ghost use Rattle.sfx_model.specs.World.{IsSound, Snapshot, WellFormed, World};
+ghost use Rattle.sfx_model.specs.declared.mode.Mode.TheVariants.{Recover};
+
+/// What an applied entry does in every well-formed world, under every rule, as a law: its events may happen
+/// one after another, the world after them is well-formed, and there the destination as the definition of
+/// the entry has it represents its site, with lists in order and live names that do not clash. It does
+/// nothing when called.
+///
+/// `change`: the entry is a change of an item that the snapshot has in this state. `unlisted`: it is of an
+/// item that the snapshot lacks and the destination holds, in recovery. `learned`: afterwards all that the
+/// snapshot knows of the item is known, but for the units that are left alone.
+pub fn entries_act()
+    ensures change { (w : World) (snapshot : Snapshot) (b : Batch) (rules : Rules) (m : Member) (item : MemberItem) →
+        WellFormed w → RepresentsReplica w m.id (shown m) → IsOrderly w.units m → Supplies w snapshot b →
+        Carried w snapshot item.id (tick_at b.made_with) (Some item.state) →
+        HasTicksLeft w b rules m (Change item) →
+        EntryActs w snapshot b rules m (Change item) }
+    ensures unlisted { (w : World) (snapshot : Snapshot) (b : Batch) (rules : Rules) (m : Member) (i : ItemId) (local : ItemState) →
+        WellFormed w → RepresentsReplica w m.id (shown m) → IsOrderly w.units m → Supplies w snapshot b →
+        Carried w snapshot i (tick_at b.made_with) None →
+        b.mode ≡ Recover → state_of m.items i ≡ Some local →
+        HasTicksLeft w b rules m (Unlisted i) →
+        EntryActs w snapshot b rules m (Unlisted i) }
+    ensures learned { (w : World) (snapshot : Snapshot) (b : Batch) (rules : Rules) (m : Member) (t : Task) →
+        WellFormed w → RepresentsReplica w m.id (shown m) → EntryActs w snapshot b rules m t →
+        LearnsItem (after_all w (events_with snapshot (task_deeds w.units b t (task_plan w.units rules b m t) m))) m.id
+        snapshot (task_item t) (task_plan w.units rules b m t).draft }
+{}
+
+/// What learning a batch's range does in every well-formed world, as a law: where each item of it is known
+/// at the destination but for the units left out, or is gone from both sides, the events may happen, the
+/// world after them is well-formed, and there the destination as the definition has it represents its site.
+/// It does nothing when called.
+pub fn ranges_act()
+    ensures { (w : World) (snapshot : Snapshot) (b : Batch) (left : List (ItemId × ℕ)) (m : Member) →
+        WellFormed w → RepresentsReplica w m.id (shown m) → IsOrderly w.units m → Supplies w snapshot b →
+        IsSound w snapshot → BacksRange w snapshot b.from b.to (tick_at b.made_with) →
+        IsSomeAnd (site_of w.sites m.id) (λ s. RangeFits s snapshot b left) →
+        RangeActs w snapshot b left m }
+{}
+
+/// What applying a batch does in every well-formed world in which source and destination represent their
+/// sites, as a law: where the batch is the one that is due from the source, its deeds may happen one after
+/// another, and the world after them is well-formed; there the source still represents its site, and so
+/// does the destination as it is then, with its lists in order and live names that do not clash. It holds
+/// however the batch ends: whole, cut, or for want of ticks. It does nothing when called.
+pub fn batches_act()
+    ensures { (w : World) (source m : Member) (b : Batch) (rules : Rules) (size : ℕ) (budget : Option ℕ) →
+        WellFormed w → source.id ≢ m.id →
+        RepresentsReplica w source.id (shown source) → RepresentsReplica w m.id (shown m) →
+        IsOrderly w.units source → IsOrderly w.units m →
+        1 ≤ size → IsDue w.units source m size b → KnowsForgotten w.units b m →
+        DeedsActIn w (batch_deeds w.units b rules budget m) source m.id (applied w.units b rules budget m).member }
+{}
+
+/// What a session does in every well-formed world in which source and destination represent their sites, as
+/// a law: its deeds may happen one after another, and the world after them is well-formed. It holds under
+/// every rule and however the session ends. It does nothing when called.
+///
+/// `session`: afterwards the source still represents its site, and so does the destination as it is then,
+/// with its lists in order and live names that do not clash. `state`: a state of all members of which source
+/// and destination are two represents the world again.
+pub fn sessions_act()
+    ensures session { (w : World) (source m : Member) (rules : Rules) (size : ℕ) (cut : Option ℕ) →
+        WellFormed w → source.id ≢ m.id →
+        RepresentsReplica w source.id (shown source) → RepresentsReplica w m.id (shown m) →
+        IsOrderly w.units source → IsOrderly w.units m → 1 ≤ size →
+        DeedsActIn w (session_deeds w.units source m rules size cut) source m.id (session_of w.units source m rules size cut).course.member }
+    ensures state { (w : World) (c d : Community) (source m : Member) (rules : Rules) (size : ℕ) (cut : Option ℕ) →
+        WellFormed w → RepresentsWorld w c → source.id ≢ m.id → IsMemberOf c source →
+        ChangesMember m (session_of w.units source m rules size cut).course.member c d →
+        IsOrderly w.units source → IsOrderly w.units m → 1 ≤ size →
+        DeedsContinue w (session_deeds w.units source m rules size cut) d }
+{}
