@@ -2,7 +2,7 @@
 use Rattle.std.proofs.Common.{◌≡◌, ◌↔◌, ℕ, zero, suc, ◌<◌, Bool, true, false, IsTrue, ◌||◌, nat_eq, arith, refl, sym, ap, subst, ◌∙◌, List, [], ◌∷◌, ◌++◌, ◌+◌, ◌≤◌, map, length, Option, Some, IfSome}
 use Rattle.std.specs.List.{range_with_len}
 use Rattle.std.proofs.lemmas.List.FromFn.{length-map-range_with_len, map-range_with_len_more}
-use Rattle.sfx_knowledge.proofs.Compares.{tested, yes_it, not_it, eq-is, eq-true}
+use Rattle.sfx_knowledge.proofs.Compares.{tested, yes_it, not_it, eq-is}
 use Rattle.sfx_model.specs.Events.{some_unit}
 
 -- two tests that say the same are the same
