@@ -1,14 +1,12 @@
 -- One applied entry, and what comes before and after it: forgotten deletions are joined, and other items
 -- are changed.
-use Rattle.std.proofs.Common.{◌≡◌, ◌≢◌, ◌⊎◌, ℕ, ◌+◌, ◌<◌, ◌≤◌, ◌^◌, Bool, true, false, true≢false, if◌then◌else◌, List, [], ◌∷◌, ◌++◌, length, map, Option, Some, None, IsSomeAnd, arith, inl, inr, refl, sym, ◌∙◌, ap, subst}
-use Rattle.std.specs.Prelude.{slice_set}
+use Rattle.std.proofs.Common.{◌≡◌, ◌≢◌, ◌⊎◌, ℕ, ◌+◌, ◌<◌, ◌≤◌, Bool, true, false, true≢false, if◌then◌else◌, List, [], ◌∷◌, length, Option, Some, None, IsSomeAnd, arith, inl, inr, refl, sym, ◌∙◌, ap, subst}
 use Rattle.std.specs.List.{list_any}
-use Rattle.std.specs.Option.{option_map, option_and_then}
+use Rattle.std.specs.Option.{option_map}
 use Rattle.sfx_ids.specs.Tick.{max_tick}
 use Rattle.sfx_ids.specs.declared.cut.Cut.{Cut}
 use Rattle.sfx_ids.specs.declared.cut.Cut.TheVariants.{Start, At, After, End}
 use Rattle.sfx_ids.specs.declared.item_id.ItemId.{ItemId}
-use Rattle.sfx_ids.specs.declared.version.Version.{Version}
 use Rattle.sfx_vector.specs.Clocks.{tick_of}
 use Rattle.sfx_item.specs.declared.cell.Cell.{Cell}
 use Rattle.sfx_knowledge.specs.Knowledge.{IsKnowledge, tick_at}
@@ -18,14 +16,14 @@ use Rattle.sfx_model.specs.declared.mode.Mode.{Mode}
 use Rattle.sfx_model.specs.declared.mode.Mode.TheVariants.{Normal, Recover}
 use Rattle.sfx_model.specs.Sets.{Has}
 use Rattle.sfx_model.specs.World.{World, Site, Snapshot, WellFormed, IsSound, holding}
-use Rattle.sfx_model.specs.Events.{Event, Make, Forget, Apply, same_item, clock_after as clock_by, site_of, after, Legal, AllLegal, after_all, IsFresh, StampLegal, ApplyLegal}
+use Rattle.sfx_model.specs.Events.{Event, Make, Forget, Apply, same_item, site_of, after, Legal, AllLegal, after_all, IsFresh, StampLegal, ApplyLegal}
 use Rattle.sfx_model.specs.Acting.{IsOrderly, Supplies}
 use Rattle.sfx_model.specs.Batch.{Batch}
-use Rattle.sfx_model.specs.Deeds.{marks_in, version_behind, other_contents, name_given, others_deeds, forget_deeds, seen_by, events_with}
+use Rattle.sfx_model.specs.Deeds.{marks_in, version_behind, other_contents, name_given, others_deeds, forget_deeds, events_with}
 use Rattle.sfx_model.specs.Draft.{Draft}
 use Rattle.sfx_model.specs.Entry.{is_stamped, Changing, clock_after, state_after, left_from, forgets_by, renamed_state, other_state, change_other, change_others}
-use Rattle.sfx_model.specs.Knowing.{stored_known, joined_forgets}
-use Rattle.sfx_model.specs.Members.{Member, ItemState, Live, Dead, AreRising, Represents, ItemRepresents, shown, state_of}
+use Rattle.sfx_model.specs.Knowing.{stored_known}
+use Rattle.sfx_model.specs.Members.{Member, ItemState, Live, Dead, AreRising, Represents, shown, state_of}
 use Rattle.sfx_model.specs.Putting.{with_state_of}
 use Rattle.sfx_model.specs.Replica.{RepresentsReplica, ActsIn}
 use Rattle.sfx_model.specs.Results.{EntryResult, StateResult}
@@ -38,13 +36,13 @@ use Rattle.sfx_model.proofs.Fitting.{Fits}
 use Rattle.sfx_model.proofs.Forgetting.{forgot_all, forgets_form}
 use Rattle.sfx_model.proofs.Learned.{learned_item, forgot_both}
 use Rattle.sfx_model.proofs.Naming.{AreOnce}
-use Rattle.sfx_model.proofs.Putting.{state_given, state_kept, rising_given, put_there}
+use Rattle.sfx_model.proofs.Putting.{state_given, state_kept, put_there}
 use Rattle.sfx_model.proofs.Replicas.{forget_replica, apply_replica}
 use Rattle.sfx_model.proofs.Shaping.{cells_held}
 use Rattle.sfx_model.proofs.Sites.{found}
 use Rattle.sfx_model.proofs.Steps.{same_item_self}
-use Rattle.sfx_model.proofs.Stepping.{AllOf, Leaves, all_leave, event_leaves, leaves_on, legal_append}
-use Rattle.sfx_model.proofs.Storing.{stored_form, stored_has}
+use Rattle.sfx_model.proofs.Stepping.{AllOf, event_leaves}
+use Rattle.sfx_model.proofs.Storing.{stored_has}
 
 -- ---- forgotten deletions
 

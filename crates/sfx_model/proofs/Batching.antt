@@ -1,8 +1,8 @@
 -- The tasks of a batch one after another, and its range at the end.
-use Rattle.std.proofs.Common.{◌≡◌, ◌≢◌, ◌⊎◌, ℕ, ◌+◌, ◌<◌, ◌≤◌, max, ◌&&◌, ◌||◌, not, Bool, true, false, true≢false, if◌then◌else◌, List, [], ◌∷◌, ◌++◌, map, Option, Some, None, IsSomeAnd, arith, inl, inr, refl, sym, ◌∙◌, ap, subst, le_refl, le_trans}
+use Rattle.std.proofs.Common.{◌≡◌, ◌≢◌, ◌⊎◌, ℕ, ◌+◌, ◌<◌, ◌≤◌, max, ◌&&◌, ◌||◌, not, Bool, true, false, true≢false, if◌then◌else◌, List, [], ◌∷◌, ◌++◌, Option, Some, None, IsSomeAnd, arith, inl, inr, refl, sym, ◌∙◌, ap, subst, le_refl, le_trans}
 use Rattle.std.specs.Prelude.{slice_get}
-use Rattle.std.specs.List.{flat_map, list_any}
-use Rattle.std.specs.Option.{option_map, option_and_then, option_or}
+use Rattle.std.specs.List.{list_any}
+use Rattle.std.specs.Option.{option_and_then}
 use Rattle.std.proofs.lemmas.Bool.{cases_eq, eq-eqb, ne_eqb}
 use Rattle.std.proofs.lemmas.Grind.{flat_map-append}
 use Rattle.std.proofs.lemmas.List.{map-append}
@@ -10,13 +10,11 @@ use Rattle.std.proofs.lemmas.Option.{slice_get-map}
 use Rattle.sfx_ids.specs.declared.cut.Cut.{Cut}
 use Rattle.sfx_ids.specs.declared.cut.Cut.TheVariants.{At, After}
 use Rattle.sfx_ids.specs.declared.item_id.ItemId.{ItemId}
-use Rattle.sfx_ids.specs.declared.version.Version.{Version}
 use Rattle.sfx_ids.specs.Cut.{is_between}
 use Rattle.sfx_segments.specs.Segments.{IsPlace}
 use Rattle.sfx_item.specs.declared.cell.Cell.{Cell}
 use Rattle.sfx_knowledge.specs.Knowledge.{Known, HasTicks, IsKnowledge, tick_at, laid_over, learned}
 use Rattle.sfx_knowledge.specs.Skips.{same_cell, is_skipped, is_skipped_at}
-use Rattle.sfx_knowledge.proofs.Compares.{Tested, yes_it, not_it, tested}
 use Rattle.sfx_knowledge.proofs.SkipForms.{cells_same}
 use Rattle.sfx_model.specs.declared.absent.Absent.{Absent}
 use Rattle.sfx_model.specs.declared.absent.Absent.TheVariants.{Keep as Kept, Drop as Dropped, Conflict}
@@ -29,28 +27,27 @@ use Rattle.sfx_model.specs.declared.mark.Mark.{Mark}
 use Rattle.sfx_model.specs.declared.mark.Mark.TheVariants.{Stays}
 use Rattle.sfx_model.specs.declared.mode.Mode.TheVariants.{Recover}
 use Rattle.sfx_model.specs.Sets.{Has, IsPart}
-use Rattle.sfx_model.specs.World.{World, Site, Snapshot, WellFormed, holding}
-use Rattle.sfx_model.specs.Events.{Event, AllLegal, after_all, site_of, is_in, IsKnownHere}
-use Rattle.sfx_model.specs.Acting.{IsOrderly, IsGone, RangeFits, LearnsItem}
+use Rattle.sfx_model.specs.World.{World, Site, Snapshot, holding}
+use Rattle.sfx_model.specs.Events.{Event, after_all, site_of, is_in, IsKnownHere}
+use Rattle.sfx_model.specs.Acting.{IsOrderly, RangeFits, LearnsItem}
 use Rattle.sfx_model.specs.Batch.{Batch}
-use Rattle.sfx_model.specs.Clashes.{Plan, drafted_name, plan_of}
+use Rattle.sfx_model.specs.Clashes.{Plan, drafted_name}
 use Rattle.sfx_model.specs.Consistent.{live_name}
 use Rattle.sfx_model.specs.Deeds.{version_behind, name_given, changed_first, task_deeds, range_deeds, go_deeds, deeds_or, seen_by, events_with}
-use Rattle.sfx_model.specs.Draft.{Draft, values_of, whole_draft, absent_draft, is_left}
+use Rattle.sfx_model.specs.Draft.{values_of, absent_draft, is_left}
 use Rattle.sfx_model.specs.Entry.{Task, Unlisted, Change, Entry, Changing, task_item, task_seen, task_draft, task_plan, unlisted_class, is_stamped, clock_after, lacks, state_after, left_from, other_state, change_other, change_others, changed_by, after_task, entry_of}
 use Rattle.sfx_model.specs.Knowing.{laid_known}
-use Rattle.sfx_model.specs.Members.{Member, MemberItem, ItemState, Live, Dead, Represents, ItemRepresents, shown, state_of, vector_at}
-use Rattle.sfx_model.specs.Putting.{with_state_of}
+use Rattle.sfx_model.specs.Members.{Member, ItemState, Live, Dead, Represents, ItemRepresents, shown, state_of, vector_at}
 use Rattle.sfx_model.specs.Replica.{RepresentsReplica}
 use Rattle.sfx_model.specs.Rules.{Rules}
-use Rattle.sfx_model.specs.Session.{Progress, Outcome, is_spent, stop_before, with_entry, lefts, after_range, finished, stopped, stop_or, is_more, go}
+use Rattle.sfx_model.specs.Session.{Progress, is_spent, stop_before, with_entry, lefts, after_range, stop_or, is_more, go}
 use Rattle.sfx_model.specs.Snapshots.{Carried}
 use Rattle.sfx_model.specs.States.{next_version}
 use Rattle.sfx_model.specs.Units.{at_unit}
 use Rattle.sfx_model.proofs.Drafted.{marks_left}
 use Rattle.sfx_model.proofs.Entailing.{task_learns}
 use Rattle.sfx_model.proofs.Learned.{laid_other}
-use Rattle.sfx_model.proofs.Naming.{IsNamed, apart_tests}
+use Rattle.sfx_model.proofs.Naming.{apart_tests}
 use Rattle.sfx_model.proofs.Planning.{plan_others}
 use Rattle.sfx_model.proofs.Putting.{state_kept}
 use Rattle.sfx_model.proofs.Ranging.{range_acts}

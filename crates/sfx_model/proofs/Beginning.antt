@@ -1,5 +1,5 @@
 -- Each item of the range of a batch that is due is one of a task, or known, or gone from both sides.
-use Rattle.std.proofs.Common.{◌≡◌, ◌≢◌, ◌⊎◌, ℕ, ◌<◌, ◌≤◌, ◌&&◌, not, Bool, true, false, true≢false, if◌then◌else◌, List, [], ◌∷◌, ◌++◌, map, Option, Some, None, arith, inl, inr, refl, sym, ◌∙◌, ap, subst}
+use Rattle.std.proofs.Common.{◌≡◌, ◌⊎◌, ℕ, ◌<◌, ◌≤◌, ◌&&◌, not, Bool, true, false, true≢false, if◌then◌else◌, List, [], ◌++◌, map, Option, Some, None, inl, inr, refl, sym, ◌∙◌, ap, subst}
 use Rattle.std.specs.List.{filter}
 use Rattle.std.proofs.lemmas.Bool.{and_from}
 use Rattle.sfx_ids.specs.declared.cut.Cut.{Cut}
@@ -10,20 +10,18 @@ use Rattle.sfx_vector.specs.Clocks.{tick_of}
 use Rattle.sfx_knowledge.specs.Knowledge.{Known, HasTicks, tick_at}
 use Rattle.sfx_knowledge.specs.Forgotten.{Forgets, fvec}
 use Rattle.sfx_knowledge.specs.Skips.{is_skipped}
-use Rattle.sfx_knowledge.proofs.Compares.{Tested, yes_it, not_it, tested}
-use Rattle.sfx_model.specs.declared.absent.Absent.{Absent}
 use Rattle.sfx_model.specs.declared.absent.Absent.TheVariants.{Keep as Kept, Drop as Dropped, Conflict}
 use Rattle.sfx_model.specs.declared.mode.Mode.{Mode}
 use Rattle.sfx_model.specs.declared.mode.Mode.TheVariants.{Normal, Recover}
 use Rattle.sfx_model.specs.Sets.{Has}
-use Rattle.sfx_model.specs.World.{World, Site, Snapshot, holding}
-use Rattle.sfx_model.specs.Events.{site_of, is_in, IsKnownHere}
+use Rattle.sfx_model.specs.World.{World, Site, holding}
+use Rattle.sfx_model.specs.Events.{site_of, is_in}
 use Rattle.sfx_model.specs.Acting.{IsOrderly}
 use Rattle.sfx_model.specs.Batch.{Batch, due, due_end, ids_in, batch_from}
 use Rattle.sfx_model.specs.Class.{is_forgotten_within, absent_class_of}
-use Rattle.sfx_model.specs.Entry.{Task, Unlisted, Change}
+use Rattle.sfx_model.specs.Entry.{Unlisted, Change}
 use Rattle.sfx_model.specs.Knowing.{laid_known}
-use Rattle.sfx_model.specs.Members.{Member, MemberItem, ItemState, Represents, ItemRepresents, shown, state_of, vector_at}
+use Rattle.sfx_model.specs.Members.{Member, MemberItem, ItemState, ItemRepresents, shown, state_of, vector_at}
 use Rattle.sfx_model.specs.Readings.{knows_version, is_unseen}
 use Rattle.sfx_model.specs.Session.{is_among, is_kept, is_unlisted, unlisted, is_live_state, tasks_of}
 use Rattle.sfx_model.specs.Snapshots.{Meets, AreWithin}

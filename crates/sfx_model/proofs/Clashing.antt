@@ -1,5 +1,5 @@
 -- The plan of a draft, by the rule on names that clash, has a draft of one of the shapes, too.
-use Rattle.std.proofs.Common.{◌≡◌, ◌≢◌, ◌⊎◌, ℕ, ◌<◌, ◌≤◌, Bool, true, false, List, [], ◌∷◌, length, Option, Some, None, arith, inl, inr, refl, sym, ◌∙◌, ap, subst}
+use Rattle.std.proofs.Common.{◌≡◌, ◌≢◌, ℕ, ◌≤◌, true, List, [], ◌∷◌, length, Option, Some, None, arith, inl, inr, refl, sym, ◌∙◌, ap, subst}
 use Rattle.std.specs.Prelude.{slice_get, slice_set}
 use Rattle.std.specs.Option.{option_map, option_and_then}
 use Rattle.std.proofs.Math.ListN.{length-set}
@@ -18,7 +18,7 @@ use Rattle.sfx_model.specs.Renamed.{new_name}
 use Rattle.sfx_model.specs.Results.{cell_at}
 use Rattle.sfx_model.specs.Units.{at_unit}
 use Rattle.sfx_model.proofs.PerUnit.{at_set, at_set_other}
-use Rattle.sfx_model.proofs.Shaping.{HaveMark, IsLiveUnit, IsLiveOne, brings_unit, BringAll, GoTogether, IsLiveDraft, Shape, KeepsAll, LeavesAll, DropsAll, DeletesAll, TakesDead, MakesLive, IsShaped, MarkFits, DraftFits, deleted_shape, left_shape, stamped_fits, left_fits}
+use Rattle.sfx_model.proofs.Shaping.{IsLiveUnit, brings_unit, GoTogether, IsLiveDraft, Shape, KeepsAll, LeavesAll, DropsAll, DeletesAll, TakesDead, MakesLive, MarkFits, deleted_shape, left_shape, stamped_fits, left_fits}
 use Rattle.sfx_model.proofs.Fitting.{Fits}
 
 -- A draft without values has no name.

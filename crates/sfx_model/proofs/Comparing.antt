@@ -1,24 +1,19 @@
 -- What comparing pieces of knowledge tells of an item: the tests of the classes say what they should.
-use Rattle.std.proofs.Common.{◌≡◌, ◌≢◌, ◌⊎◌, ℕ, zero, suc, ◌<◌, ◌≤◌, ◌&&◌, ◌||◌, not, nat_eq, nat_le, Bool, true, false, true≢false, List, [], ◌∷◌, length, Option, Some, None, arith, inl, inr, refl, sym, ◌∙◌, ap, subst}
-use Rattle.std.specs.List.{list_all}
+use Rattle.std.proofs.Common.{◌≡◌, ℕ, ◌<◌, ◌≤◌, not, nat_le, Bool, true, false, true≢false, List, Option, Some, arith, refl, sym, ◌∙◌, subst}
 use Rattle.std.specs.Option.{option_map_or}
-use Rattle.std.proofs.lemmas.Bool.{and_parts, eqb-true}
 use Rattle.std.proofs.lemmas.Bool.Decides.{nat_tests}
 use Rattle.sfx_ids.specs.declared.cut.Cut.{Cut}
 use Rattle.sfx_ids.specs.declared.cut.Cut.TheVariants.{At}
 use Rattle.sfx_ids.specs.declared.item_id.ItemId.{ItemId}
 use Rattle.sfx_ids.specs.declared.version.Version.{Version}
 use Rattle.sfx_ids.specs.ItemId.{creation_of}
-use Rattle.sfx_vector.specs.Clocks.{Clocks, tick_of}
+use Rattle.sfx_vector.specs.Clocks.{tick_of}
 use Rattle.sfx_knowledge.specs.Knowledge.{Known, HasTicks, IsKnowledge, tick_at}
 use Rattle.sfx_knowledge.specs.Forgotten.{Forgets, fvec}
-use Rattle.sfx_knowledge.specs.Forms.{listed_in, is_listed}
-use Rattle.sfx_knowledge.proofs.Compares.{yes_it, not_it, tested}
-use Rattle.sfx_knowledge.proofs.Clocks.{tick-unlisted}
 use Rattle.sfx_knowledge.proofs.Making.{ticks-with_own, IsKnowledge-with_own}
 use Rattle.sfx_model.specs.World.{Record, Holding, IsContained}
 use Rattle.sfx_model.specs.Acting.{IsOrderly}
-use Rattle.sfx_model.specs.Class.{is_within, is_forgotten_within}
+use Rattle.sfx_model.specs.Class.{is_forgotten_within}
 use Rattle.sfx_model.specs.Headline.{version_at}
 use Rattle.sfx_model.specs.Knowing.{laid_known}
 use Rattle.sfx_model.specs.Members.{Member, MemberItem, ItemState, Live, Dead, ItemRepresents, vector_at}

@@ -1,24 +1,20 @@
 -- What batches and sessions do, in the words of the laws.
-use Rattle.std.proofs.Common.{◌≡◌, ◌≢◌, ℕ, ◌+◌, ◌<◌, ◌≤◌, ◌&&◌, Bool, true, false, List, length, Option, Some, None, refl, sym, ◌∙◌, ap, subst}
-use Rattle.std.proofs.lemmas.Bool.{and_parts}
-use Rattle.sfx_ids.specs.declared.cut.Cut.{Cut}
+use Rattle.std.proofs.Common.{◌≡◌, ◌≢◌, ℕ, ◌+◌, ◌≤◌, true, List, length, Option, Some, refl, sym, ◌∙◌, ap, subst}
 use Rattle.sfx_ids.specs.declared.cut.Cut.TheVariants.{Start, At}
-use Rattle.sfx_ids.specs.declared.item_id.ItemId.{ItemId}
 use Rattle.sfx_vector.specs.Clocks.{tick_of}
 use Rattle.sfx_knowledge.specs.Forgotten.{fvec}
 use Rattle.sfx_model.specs.declared.mode.Mode.{Mode}
 use Rattle.sfx_model.specs.declared.mode.Mode.TheVariants.{Normal, Recover}
-use Rattle.sfx_model.specs.Sets.{Has}
 use Rattle.sfx_model.specs.World.{World, Site, WellFormed}
-use Rattle.sfx_model.specs.Events.{Event, Deed, after_all, after_deeds, site_of, is_in}
+use Rattle.sfx_model.specs.Events.{Deed, site_of, is_in}
 use Rattle.sfx_model.specs.Acting.{IsOrderly, IsDue, KnowsForgotten, DeedsActIn, DeedsContinue, IsMemberOf}
-use Rattle.sfx_model.specs.Batch.{Batch, batch_from, mode_of}
-use Rattle.sfx_model.specs.Deeds.{batch_deeds, session_deeds, deeds_from, events_with}
+use Rattle.sfx_model.specs.Batch.{Batch, mode_of}
+use Rattle.sfx_model.specs.Deeds.{batch_deeds, session_deeds, events_with}
 use Rattle.sfx_model.specs.Knowing.{laid_known}
-use Rattle.sfx_model.specs.Members.{Member, NamedMember, Community, RepresentsWorld, RepresentsNamed, Represents, shown, vector_at}
+use Rattle.sfx_model.specs.Members.{Member, Community, RepresentsWorld, Represents, shown, vector_at}
 use Rattle.sfx_model.specs.Replica.{RepresentsReplica}
 use Rattle.sfx_model.specs.Rules.{Rules}
-use Rattle.sfx_model.specs.Session.{applied, session_from, session_of, set_out}
+use Rattle.sfx_model.specs.Session.{applied, session_of, set_out}
 use Rattle.sfx_model.specs.States.{ChangesMember}
 use Rattle.sfx_model.proofs.Batching.{GoesOn}
 use Rattle.sfx_model.proofs.Beginning.{ForgottenKnown}
@@ -27,7 +23,7 @@ use Rattle.sfx_model.proofs.Due.{due_batch, due_from}
 use Rattle.sfx_model.proofs.Headline.{named_site}
 use Rattle.sfx_model.proofs.Sessioning.{due_acts, mode_known, session_acts}
 use Rattle.sfx_model.proofs.Sites.{site_there}
-use Rattle.sfx_model.proofs.Sourced.{AllName, AreEvents, deeds_are, batch_names, session_names}
+use Rattle.sfx_model.proofs.Sourced.{AllName, deeds_are, batch_names, session_names}
 use Rattle.sfx_model.proofs.Sourcing.{Ready, ready_on}
 use Rattle.sfx_model.proofs.Stating.{all_state}
 

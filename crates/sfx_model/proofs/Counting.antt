@@ -1,32 +1,27 @@
 -- The ids of a member's items are in range, so that there are not too many to count.
-use Rattle.std.proofs.Common.{◌≡◌, ◌≢◌, ◌⊎◌, ℕ, suc, ◌+◌, ◌*◌, ◌^◌, ◌<◌, ◌≤◌, nat_eq, Bool, true, false, true≢false, if◌then◌else◌, List, [], ◌∷◌, length, Option, Some, None, arith, inl, inr, refl, sym, ◌∙◌, ap, subst}
+use Rattle.std.proofs.Common.{◌≡◌, ◌≢◌, ℕ, ◌+◌, ◌*◌, ◌^◌, ◌<◌, ◌≤◌, List, [], ◌∷◌, length, Option, Some, None, arith, inl, inr, refl, sym, ◌∙◌, ap, subst}
 use Rattle.std.proofs.lemmas.Bool.{cases_eq, eq-eqb, ne_eqb}
-use Rattle.sfx_ids.specs.Tick.{max_tick}
-use Rattle.sfx_ids.specs.declared.cut.Cut.{Cut}
 use Rattle.sfx_ids.specs.declared.cut.Cut.TheVariants.{At}
 use Rattle.sfx_ids.specs.declared.item_id.ItemId.{ItemId}
 use Rattle.sfx_ids.specs.declared.version.Version.{Version}
 use Rattle.sfx_ids.specs.ItemId.{IsItemId, creation_of}
 use Rattle.sfx_vector.specs.Clocks.{Clocks, AreFrom, AreClocks, tick_of}
-use Rattle.sfx_vector.proofs.Entries.{tick-here, tick-past}
+use Rattle.sfx_vector.proofs.Entries.{tick-past}
 use Rattle.sfx_knowledge.specs.Knowledge.{Known, IsKnowledge, clocks_at, tick_at}
 use Rattle.sfx_knowledge.proofs.Clocks.{tick-most}
 use Rattle.sfx_knowledge.proofs.Known.{AreClocks-clocks_at}
 use Rattle.sfx_model.specs.Sets.{Has}
 use Rattle.sfx_model.specs.World.{World, Site, Snapshot, WellFormed, IsSoundItem, Made, holding}
-use Rattle.sfx_model.specs.Events.{site_of}
 use Rattle.sfx_model.specs.Acting.{IsOrderly}
 use Rattle.sfx_model.specs.Members.{Member, MemberItem, ItemState, Live, Dead, AreRising, IsIdBelow, Represents, ItemRepresents, shown, state_of, vector_at}
 use Rattle.sfx_model.specs.Putting.{with_state_of}
 use Rattle.sfx_model.specs.Renamed.{new_name}
-use Rattle.sfx_model.specs.Replica.{RepresentsReplica}
 use Rattle.sfx_model.specs.Snapshots.{Carried}
 use Rattle.sfx_model.proofs.Headline.{cell_there}
 use Rattle.sfx_model.proofs.Naming.{IsFree}
 use Rattle.sfx_model.proofs.NewNames.{new_free}
 use Rattle.sfx_model.proofs.Putting.{put_has, drop_has}
 use Rattle.sfx_model.proofs.Rising.{state_here, state_behind, before_differs}
-use Rattle.sfx_model.proofs.Sites.{found}
 
 -- The ids of the items are in range.
 abbrev pub AreIds : List MemberItem → Type 0

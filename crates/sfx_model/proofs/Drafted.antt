@@ -1,8 +1,8 @@
 -- A draft of one of the shapes, whose units may have their marks, is an entry that may be applied, and the
 -- state that it gives its item is what such an entry owes.
-use Rattle.std.proofs.Common.{◌≡◌, ◌≢◌, ◌⊎◌, ◌↔◌, ℕ, zero, suc, ◌+◌, ◌<◌, ◌≤◌, ◌&&◌, ◌||◌, nat_eq, Bool, true, false, true≢false, if◌then◌else◌, List, [], ◌∷◌, length, Option, Some, None, slice_get, arith, inl, inr, refl, sym, ◌∙◌, ap, subst}
+use Rattle.std.proofs.Common.{◌≡◌, ◌≢◌, ◌↔◌, ℕ, zero, suc, ◌+◌, ◌<◌, ◌≤◌, Bool, true, false, true≢false, if◌then◌else◌, List, [], ◌∷◌, length, Option, Some, None, slice_get, arith, inl, inr, refl, sym, ◌∙◌, ap, subst}
 use Rattle.std.specs.List.{list_any}
-use Rattle.std.proofs.lemmas.Bool.{eq-eqb, ne_eqb}
+use Rattle.std.proofs.lemmas.Bool.{eq-eqb}
 use Rattle.std.proofs.lemmas.Option.{slice_get_within}
 use Rattle.sfx_ids.specs.declared.item_id.ItemId.{ItemId}
 use Rattle.sfx_ids.specs.declared.version.Version.{Version}
@@ -12,19 +12,18 @@ use Rattle.sfx_knowledge.proofs.Compares.{Tested, yes_it, not_it, tested}
 use Rattle.sfx_knowledge.proofs.SkipForms.{cells_same}
 use Rattle.sfx_model.specs.declared.mark.Mark.{Mark}
 use Rattle.sfx_model.specs.declared.mark.Mark.TheVariants.{Stays, Taken, Stamped, Left, Gone}
-use Rattle.sfx_model.specs.Sets.{Has}
 use Rattle.sfx_model.specs.World.{Content, Written, Deleted, World, Site, Snapshot, WellFormed, IsSound, IsLiveHolding, holding}
-use Rattle.sfx_model.specs.Events.{UnitMark, Stays as Keeps, Taken as Takes, Stamped as Stamps, Left as Leaves, Gone as Drops, is_stamped as stamps, brings, content_of, some_unit, StampLegal, UnitLegal, Joint, AllStay, AllTaken, AllLeft, AllGone, AllDelete, AllWrite, Mixed, AreMixed, ApplyLegal}
+use Rattle.sfx_model.specs.Events.{Stamped as Stamps, Left as Leaves, Gone as Drops, is_stamped as stamps, brings, content_of, some_unit, StampLegal, UnitLegal, Joint, AllStay, AllTaken, AllLeft, AllGone, AllDelete, AllWrite, Mixed, ApplyLegal}
 use Rattle.sfx_model.specs.Deeds.{content_in, mark_with, marks_in}
 use Rattle.sfx_model.specs.Draft.{Draft, cells_of, is_left}
 use Rattle.sfx_model.specs.Entry.{is_stamped, is_taken, is_gone, no_cell, cell_after, cells_after, brought, state_after, left_from}
 use Rattle.sfx_model.specs.Members.{ItemState, Live, Dead, ItemRepresents}
 use Rattle.sfx_model.specs.Results.{StateResult, Unchanged, AsSeen, Removed, DeadNow, LiveNow, CellResult, CellsResult, SkipsLeft, cell_at}
-use Rattle.sfx_model.specs.Units.{each_unit, at_unit}
+use Rattle.sfx_model.specs.Units.{at_unit}
 use Rattle.sfx_model.proofs.Headline.{no_deletion, cell_there}
 use Rattle.sfx_model.proofs.Marks.{some_of, none_of}
 use Rattle.sfx_model.proofs.PerUnit.{at_get, at_past, length_each, each_get, any_at, any_none, any_where, any_false}
-use Rattle.sfx_model.proofs.Shaping.{HaveMark, IsLiveUnit, IsLiveOne, brings_unit, BringAll, GoTogether, IsLiveDraft, Shape, KeepsAll, LeavesAll, DropsAll, DeletesAll, TakesDead, MakesLive, IsShaped, MarkFits, DraftFits, HasCells}
+use Rattle.sfx_model.proofs.Shaping.{HaveMark, IsLiveUnit, IsLiveOne, brings_unit, GoTogether, IsLiveDraft, Shape, KeepsAll, LeavesAll, DropsAll, DeletesAll, TakesDead, MakesLive, IsShaped, MarkFits, HasCells}
 use Rattle.sfx_model.proofs.Fitting.{Fits}
 
 -- ---- the entry may be applied

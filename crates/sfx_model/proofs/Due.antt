@@ -1,46 +1,32 @@
 -- The batch that is due from a source, as it begins: its tasks are what they should be, and each item of its
 -- range is one of a task, or known, or gone from both sides.
-use Rattle.std.proofs.Common.{◌≡◌, ◌≢◌, ◌⊎◌, ℕ, zero, suc, ◌+◌, ◌<◌, ◌≤◌, ◌&&◌, ◌||◌, not, nat_lt, Bool, true, false, true≢false, if◌then◌else◌, List, [], ◌∷◌, ◌++◌, length, map, take, Option, Some, None, arith, inl, inr, refl, sym, ◌∙◌, ap, subst}
-use Rattle.std.specs.List.{filter, list_any}
-use Rattle.std.proofs.lemmas.Bool.{and_parts, and_from}
+use Rattle.std.proofs.Common.{◌≡◌, ◌≢◌, ◌⊎◌, ℕ, zero, suc, ◌≤◌, ◌&&◌, ◌||◌, not, nat_lt, Bool, true, false, true≢false, if◌then◌else◌, List, [], ◌∷◌, ◌++◌, length, map, take, Option, Some, None, arith, inl, inr, refl, sym, ◌∙◌, ap, subst}
+use Rattle.std.specs.List.{filter}
+use Rattle.std.proofs.lemmas.Bool.{and_parts}
 use Rattle.std.proofs.lemmas.Bool.Decides.{nat_tests}
 use Rattle.sfx_ids.specs.declared.cut.Cut.{Cut}
 use Rattle.sfx_ids.specs.declared.cut.Cut.TheVariants.{At, After, End}
 use Rattle.sfx_ids.specs.declared.item_id.ItemId.{ItemId}
-use Rattle.sfx_ids.specs.Cut.{cut_le, cut_lt, is_between}
-use Rattle.sfx_ids.specs.ItemId.{creation_of}
+use Rattle.sfx_ids.specs.Cut.{cut_le, cut_lt}
 use Rattle.sfx_ids.proofs.CutOrder.{after-le, le-not_lt}
-use Rattle.sfx_vector.specs.Clocks.{tick_of}
-use Rattle.sfx_knowledge.specs.Knowledge.{Known, HasTicks, tick_at}
-use Rattle.sfx_knowledge.specs.Forgotten.{Forgets, fvec}
-use Rattle.sfx_knowledge.specs.Skips.{is_skipped}
-use Rattle.sfx_knowledge.proofs.Compares.{Tested, yes_it, not_it, tested}
-use Rattle.sfx_model.specs.declared.absent.Absent.{Absent}
-use Rattle.sfx_model.specs.declared.absent.Absent.TheVariants.{Keep as Kept, Drop as Dropped, Conflict}
+use Rattle.sfx_knowledge.specs.Knowledge.{Known}
 use Rattle.sfx_model.specs.declared.mode.Mode.{Mode}
 use Rattle.sfx_model.specs.declared.mode.Mode.TheVariants.{Normal, Recover}
 use Rattle.sfx_model.specs.Sets.{Has}
-use Rattle.sfx_model.specs.World.{World, Site, Snapshot, holding}
-use Rattle.sfx_model.specs.Events.{same_item, site_of, is_in, IsKnownHere}
+use Rattle.sfx_model.specs.Events.{same_item, is_in}
 use Rattle.sfx_model.specs.Acting.{IsOrderly}
-use Rattle.sfx_model.specs.Batch.{Batch, due, place_behind, due_end, ids_in, listed_ids, batch_from}
-use Rattle.sfx_model.specs.Class.{is_forgotten_within, absent_class_of}
-use Rattle.sfx_model.specs.Entry.{Task, Unlisted, Change, Entry, task_item}
+use Rattle.sfx_model.specs.Batch.{Batch, due, place_behind, due_end, ids_in, batch_from}
+use Rattle.sfx_model.specs.Class.{absent_class_of}
+use Rattle.sfx_model.specs.Entry.{Task, Unlisted, Change}
 use Rattle.sfx_model.specs.Knowing.{laid_known}
-use Rattle.sfx_model.specs.Members.{Member, MemberItem, ItemState, Live, Dead, AreRising, IsIdBelow, Represents, ItemRepresents, shown, state_of, vector_at}
-use Rattle.sfx_model.specs.Readings.{items_from, knows_version, is_unseen, unseen}
-use Rattle.sfx_model.specs.Session.{is_among, is_kept, is_unlisted, unlisted, is_live_state, tasks_of, lefts}
-use Rattle.sfx_model.specs.Snapshots.{Meets, AreWithin}
-use Rattle.sfx_model.proofs.Sets.{has_left, has_right}
-use Rattle.sfx_model.proofs.Batching.{IsPending, IsKnownNow, IsGoneNow, RangeSoFar, NoneUnlisted, NotUnlisted, IsUnlistedHere, AllFit}
+use Rattle.sfx_model.specs.Members.{Member, MemberItem, ItemState, AreRising, IsIdBelow, state_of}
+use Rattle.sfx_model.specs.Readings.{items_from, is_unseen, unseen}
+use Rattle.sfx_model.specs.Session.{is_among, is_kept, is_unlisted, unlisted, is_live_state, tasks_of}
+use Rattle.sfx_model.proofs.Batching.{NoneUnlisted, NotUnlisted, IsUnlistedHere, AllFit}
 use Rattle.sfx_model.proofs.Bounds.{has_taken, has_filtered}
-use Rattle.sfx_model.proofs.Classes.{range_listed, range_cleaned, range_unknown}
-use Rattle.sfx_model.proofs.Comparing.{laid_has, item_seen, unit_contained, creation_lacks, forgotten_within}
 use Rattle.sfx_model.proofs.Counting.{state_there}
-use Rattle.sfx_model.proofs.Replicas.{one_found}
 use Rattle.sfx_model.proofs.Rising.{before_differs}
-use Rattle.sfx_model.proofs.Sites.{found}
-use Rattle.sfx_model.proofs.Sourcing.{IsFrom, Ready, source_carried}
+use Rattle.sfx_model.proofs.Sourcing.{IsFrom}
 use Rattle.sfx_model.proofs.Steps.{same_item_is, same_item_self}
 
 -- ---- lists

@@ -1,5 +1,5 @@
 -- What entries and ranges do, in the words of the laws.
-use Rattle.std.proofs.Common.{◌≡◌, ◌≢◌, ◌⊎◌, ℕ, Bool, true, false, true≢false, List, [], ◌∷◌, ◌++◌, Option, Some, None, IsSomeAnd, inl, inr, refl, sym, ◌∙◌, ap, subst}
+use Rattle.std.proofs.Common.{◌≡◌, ℕ, false, true≢false, List, [], ◌∷◌, ◌++◌, Option, Some, None, IsSomeAnd, inr, refl, sym, subst}
 use Rattle.std.proofs.lemmas.List.{map-append}
 use Rattle.sfx_ids.specs.declared.item_id.ItemId.{ItemId}
 use Rattle.sfx_ids.specs.declared.version.Version.{Version}
@@ -11,26 +11,25 @@ use Rattle.sfx_model.specs.declared.mode.Mode.{Mode}
 use Rattle.sfx_model.specs.declared.mode.Mode.TheVariants.{Normal, Recover}
 use Rattle.sfx_model.specs.Sets.{Has, IsPart}
 use Rattle.sfx_model.specs.World.{Content, World, Site, Snapshot, WellFormed, IsSound}
-use Rattle.sfx_model.specs.Events.{UnitMark, Event, Deed, Apply, ApplyFrom, Legal, AllLegal, after, after_all, site_of, at_site, site_applied, applied, known_with, known_by, content_of}
+use Rattle.sfx_model.specs.Events.{Event, Deed, Apply, ApplyFrom, AllLegal, after, after_all, site_of, site_applied, applied, known_with, known_by, content_of}
 use Rattle.sfx_model.specs.Acting.{IsOrderly, Supplies, AllActIn, RangeFits, EntryActs, RangeActs, HasTicksLeft, LearnsItem}
 use Rattle.sfx_model.specs.Batch.{Batch}
 use Rattle.sfx_model.specs.Deeds.{mark_with, marks_in, content_in, others_deeds, forget_deeds, changed_first, task_deeds, seen_by, events_with, range_deeds}
 use Rattle.sfx_model.specs.Draft.{Draft, is_left}
 use Rattle.sfx_model.specs.Entry.{Task, Unlisted, Change, Changing, change_other, task_item, task_plan}
 use Rattle.sfx_model.specs.Clashes.{Plan}
-use Rattle.sfx_model.specs.Members.{Member, MemberItem, ItemState, Represents, shown, state_of}
+use Rattle.sfx_model.specs.Members.{Member, MemberItem, ItemState, shown, state_of}
 use Rattle.sfx_model.specs.Replica.{RepresentsReplica}
 use Rattle.sfx_model.specs.Results.{BacksRange}
 use Rattle.sfx_model.specs.Rules.{Rules}
 use Rattle.sfx_model.specs.Snapshots.{Carried}
-use Rattle.sfx_model.specs.States.{IsOf, next_version}
+use Rattle.sfx_model.specs.States.{next_version}
 use Rattle.sfx_model.specs.Units.{at_unit}
 use Rattle.sfx_model.proofs.Sets.{has_right}
-use Rattle.sfx_model.proofs.Sites.{found}
 use Rattle.sfx_model.proofs.Steps.{same_item_self}
 use Rattle.sfx_model.proofs.Replicas.{own_found}
-use Rattle.sfx_model.proofs.Stepping.{AllOf, Leaves, of_append, after_append, all_leave, event_leaves}
-use Rattle.sfx_model.proofs.Tasking.{TaskActs, TaskFits, task_acts}
+use Rattle.sfx_model.proofs.Stepping.{AllOf, of_append, after_append, all_leave, event_leaves}
+use Rattle.sfx_model.proofs.Tasking.{TaskActs, task_acts}
 use Rattle.sfx_model.proofs.Ranging.{range_acts}
 
 -- The events of a task or a range, in the words of the laws.

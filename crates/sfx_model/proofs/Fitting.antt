@@ -1,8 +1,7 @@
 -- Each class of a change, and of an item that the source does not list, gives a draft of one of the shapes,
 -- and each of its units may have its mark.
-use Rattle.std.proofs.Common.{◌≡◌, ◌≢◌, ◌⊎◌, ℕ, ◌<◌, ◌≤◌, Bool, true, false, true≢false, if◌then◌else◌, List, [], length, Option, Some, None, slice_get, arith, inl, inr, refl, sym, ◌∙◌, ap, subst, le_trans}
+use Rattle.std.proofs.Common.{◌≡◌, ℕ, ◌<◌, ◌≤◌, Bool, true, false, true≢false, if◌then◌else◌, List, [], length, Option, Some, None, slice_get, arith, inl, refl, sym, ◌∙◌, ap, subst}
 use Rattle.std.specs.List.{list_all}
-use Rattle.sfx_ids.specs.declared.cut.Cut.{Cut}
 use Rattle.sfx_ids.specs.declared.cut.Cut.TheVariants.{At}
 use Rattle.sfx_ids.specs.declared.item_id.ItemId.{ItemId}
 use Rattle.sfx_ids.specs.ItemId.{creation_of}
@@ -20,21 +19,21 @@ use Rattle.sfx_model.specs.declared.mark.Mark.TheVariants.{Stays, Taken, Stamped
 use Rattle.sfx_model.specs.declared.unit_class.UnitClass.{UnitClass}
 use Rattle.sfx_model.specs.declared.unit_class.UnitClass.TheVariants.{Known as KnownUnit, Newer, Concurrent}
 use Rattle.sfx_model.specs.Sets.{IsPart}
-use Rattle.sfx_model.specs.World.{World, Site, Snapshot, WellFormed, IsContained, holding}
-use Rattle.sfx_model.specs.Events.{TakeLegal, IsKnownHere}
-use Rattle.sfx_model.specs.Class.{Class, AllKnown, TakeWhole, Units, WholeConflict, is_forgotten_within, unit_class, absent_change, whole_change, present_change, unknown_change, class_of, absent_class_of}
-use Rattle.sfx_model.specs.Draft.{Draft, cells_of, values_of, value_in, all_marked, whole_draft, conflict_mark, conflict_value, unit_mark, unit_value, is_left, unit_marks, unit_values, units_draft, draft_of, absent_draft}
+use Rattle.sfx_model.specs.World.{World, Site, Snapshot, WellFormed, holding}
+use Rattle.sfx_model.specs.Events.{TakeLegal}
+use Rattle.sfx_model.specs.Class.{AllKnown, TakeWhole, WholeConflict, is_forgotten_within, unit_class, absent_change, whole_change, present_change, unknown_change, class_of, absent_class_of}
+use Rattle.sfx_model.specs.Draft.{Draft, values_of, value_in, all_marked, whole_draft, conflict_mark, conflict_value, unit_mark, unit_value, is_left, unit_marks, unit_values, units_draft, draft_of, absent_draft}
 use Rattle.sfx_model.specs.Members.{Member, MemberItem, ItemState, Live, Dead, ItemRepresents, shown, state_of, vector_at}
 use Rattle.sfx_model.specs.Readings.{knows_version, is_unseen_at, is_unseen}
 use Rattle.sfx_model.specs.Rules.{Rules}
-use Rattle.sfx_model.specs.Snapshots.{Meets, HasContained, AreWithin}
+use Rattle.sfx_model.specs.Snapshots.{Meets, HasContained}
 use Rattle.sfx_model.specs.Units.{each_unit, at_unit}
 use Rattle.std.proofs.lemmas.List.{length-map}
 use Rattle.sfx_model.proofs.PerUnit.{at_each, at_map, length_each, all_at}
 use Rattle.sfx_model.proofs.Headline.{cell_there}
 use Rattle.sfx_model.proofs.Classes.{known_here, newer_taken, new_taken, cleaned_taken, dropped_legal, range_cleaned, range_unknown}
 use Rattle.sfx_model.proofs.Comparing.{item_seen, unit_contained, creation_lacks, forgotten_within}
-use Rattle.sfx_model.proofs.Shaping.{HaveMark, IsLiveUnit, IsShaped, MakesLive, LeavesAll, MarkFits, DraftFits, HasCells, cells_held, marked_have, value_there, whole_shape, whole_fits, stays_shape, gone_shape, taken_shape}
+use Rattle.sfx_model.proofs.Shaping.{IsLiveUnit, IsShaped, MakesLive, LeavesAll, MarkFits, DraftFits, HasCells, cells_held, marked_have, value_there, whole_shape, whole_fits, stays_shape, gone_shape, taken_shape}
 
 -- ---- units of an item that is live on both sides
 

@@ -1,19 +1,18 @@
 -- The list of forgotten deletions after they were joined with others: it is in its one form, and has the
 -- ticks of both.
-use Rattle.std.proofs.Common.{◌≡◌, ◌≢◌, ◌⊎◌, ℕ, ◌<◌, ◌≤◌, max, ◌&&◌, ◌||◌, Bool, true, false, if◌then◌else◌, List, [], ◌∷◌, ◌++◌, map, arith, inl, inr, refl, sym, ◌∙◌, ap, subst}
-use Rattle.std.specs.List.{flat_map}
+use Rattle.std.proofs.Common.{◌≡◌, ℕ, max, Bool, true, false, if◌then◌else◌, List, [], ◌∷◌, ◌++◌, map, arith, refl, sym, ◌∙◌, ap, subst}
 use Rattle.sfx_ids.specs.declared.cut.Cut.{Cut}
 use Rattle.sfx_ids.specs.declared.cut.Cut.TheVariants.{Start}
-use Rattle.sfx_ids.specs.Cut.{cut_lt, cut_le}
+use Rattle.sfx_ids.specs.Cut.{cut_le}
 use Rattle.sfx_ids.proofs.CutOrder.{start-le, le-self, lt-le, le_trans}
 use Rattle.sfx_vector.specs.Clocks.{Clocks, AreClocks, tick_of}
 use Rattle.sfx_vector.proofs.Entries.{same_ticks}
 use Rattle.sfx_segments.specs.Segments.{IsPlace, segment_at, GoOn, AreSegments}
 use Rattle.sfx_segments.proofs.Places.{segment_at-passed, at_start}
-use Rattle.sfx_knowledge.specs.Row.{UnitClocks, row_at, IsRow, AreExceptions}
-use Rattle.sfx_knowledge.specs.Knowledge.{Known, no_row, Ticks, HasTicks, IsKnowledge, AreRows, tick_at}
+use Rattle.sfx_knowledge.specs.Row.{UnitClocks, IsRow, AreExceptions}
+use Rattle.sfx_knowledge.specs.Knowledge.{Known, no_row, Ticks, HasTicks, IsKnowledge, AreRows}
 use Rattle.sfx_knowledge.specs.Forgotten.{Forgets, ForgotBoth, AreForgets, fvec}
-use Rattle.sfx_knowledge.specs.Forms.{AreTicks, ArePlaces, AreReplicas, ChangeAtAlone, is_parted, is_listed, listed_in, knowledge_of}
+use Rattle.sfx_knowledge.specs.Forms.{AreTicks, ArePlaces, AreReplicas, ChangeAtAlone, is_listed, listed_in, knowledge_of}
 use Rattle.sfx_knowledge.proofs.Clocks.{AreReplicas-append, AreReplicas-listed_in, listed-append, tick-most, tick-unlisted}
 use Rattle.sfx_knowledge.proofs.RowForms.{row_at-first}
 use Rattle.sfx_knowledge.proofs.Known.{row_at_place}

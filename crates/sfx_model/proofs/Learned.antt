@@ -1,10 +1,10 @@
 -- What learning makes of the lists of a member, in the words of what an event owes of it.
-use Rattle.std.proofs.Common.{◌≡◌, ◌≢◌, ◌⊎◌, ◌↔◌, ℕ, ◌<◌, max, not, ◌&&◌, Bool, true, false, true≢false, if◌then◌else◌, nat_eq, List, inl, inr, refl, sym, ◌∙◌, ap, subst}
+use Rattle.std.proofs.Common.{◌≡◌, ◌≢◌, ◌↔◌, ℕ, ◌<◌, max, not, ◌&&◌, Bool, true, false, true≢false, if◌then◌else◌, nat_eq, List, inl, inr, refl, sym, ◌∙◌, ap, subst}
 use Rattle.std.proofs.lemmas.Bool.{eq-eqb, ne_eqb, cases_eq}
 use Rattle.sfx_ids.specs.declared.cut.Cut.{Cut}
 use Rattle.sfx_ids.specs.declared.cut.Cut.TheVariants.{Start, At, After, End}
 use Rattle.sfx_ids.specs.declared.item_id.ItemId.{ItemId}
-use Rattle.sfx_ids.specs.Cut.{cut_lt, cut_le, is_between}
+use Rattle.sfx_ids.specs.Cut.{cut_le, is_between}
 use Rattle.sfx_ids.proofs.CutOrder.{start-le, le-self, at-lt-after, alone}
 use Rattle.sfx_vector.specs.Clocks.{tick_of}
 use Rattle.sfx_segments.specs.Segments.{IsPlace}
@@ -12,9 +12,9 @@ use Rattle.sfx_segments.proofs.Places.{lt-end}
 use Rattle.sfx_knowledge.specs.Skips.{is_skipped, is_skipped_at}
 use Rattle.sfx_knowledge.specs.Knowledge.{Known, Ticks, HasTicks, tick_at, learned, laid_over}
 use Rattle.sfx_knowledge.specs.Forgotten.{Forgets, ForgotBoth, fvec}
-use Rattle.sfx_model.specs.Events.{UnitMark, Stays, Taken, Stamped, Left, Gone, same_item, forgotten_joined}
+use Rattle.sfx_model.specs.Events.{UnitMark, Stays, Taken, Stamped, Left, Gone, same_item}
 use Rattle.sfx_model.specs.Members.{Member, shown, vector_at}
-use Rattle.sfx_model.specs.Results.{LearnResult, ForgetResult, SameVectors, SkipsLeft, is_place_of, is_left_at, joined_by, joined_at, joined_in, with_own}
+use Rattle.sfx_model.specs.Results.{LearnResult, ForgetResult, SameVectors, SkipsLeft, is_place_of, is_left_at, joined_by, joined_at, with_own}
 use Rattle.sfx_model.proofs.Steps.{same_item_is, same_item_self}
 
 -- The entry of a replica in ticks with an own one laid over them.

@@ -1,20 +1,17 @@
 -- Live names that do not clash, and what an entry and its rule make of them.
-use Rattle.std.proofs.Common.{◌≡◌, ◌≢◌, ◌⊎◌, ℕ, ◌<◌, ◌≤◌, ◌&&◌, not, Bool, true, false, true≢false, if◌then◌else◌, List, [], ◌∷◌, length, Option, Some, None, arith, inl, inr, refl, sym, ◌∙◌, ap, subst}
-use Rattle.std.specs.Prelude.{slice_get, slice_set}
-use Rattle.std.specs.Option.{option_map, option_and_then, option_map_or}
-use Rattle.std.proofs.lemmas.Bool.{and_parts, and_from, cases_eq}
+use Rattle.std.proofs.Common.{◌≡◌, ◌≢◌, ℕ, not, Bool, true, false, true≢false, if◌then◌else◌, List, [], ◌∷◌, Option, Some, None, inl, inr, refl, sym, ◌∙◌, ap, subst}
+use Rattle.std.specs.Option.{option_map_or}
+use Rattle.std.proofs.lemmas.Bool.{and_parts}
 use Rattle.sfx_ids.specs.declared.item_id.ItemId.{ItemId}
-use Rattle.sfx_ids.specs.declared.version.Version.{Version}
 use Rattle.sfx_item.specs.declared.cell.Cell.{Cell}
 use Rattle.sfx_item.specs.Clash.{Clash}
 use Rattle.sfx_item.specs.Decided.{is_clash}
-use Rattle.sfx_item.specs.Row.{first_value}
 use Rattle.sfx_item.proofs.Decisions.{clash_decided, clash_symmetric}
 use Rattle.sfx_knowledge.proofs.Compares.{Tested, yes_it, not_it, tested}
 use Rattle.sfx_model.specs.Sets.{Has}
 use Rattle.sfx_model.specs.Consistent.{live_name, AreApart}
 use Rattle.sfx_model.specs.Events.{same_item}
-use Rattle.sfx_model.specs.Members.{ItemState, Live, Dead, MemberItem, AreRising, IsIdBelow, state_of}
+use Rattle.sfx_model.specs.Members.{ItemState, Live, Dead, MemberItem, AreRising, state_of}
 use Rattle.sfx_model.specs.Readings.{is_clashing, is_excepted, is_in_the_way, clashing_with}
 use Rattle.sfx_model.proofs.Rising.{before_differs, other_item, state_here, state_behind}
 use Rattle.sfx_model.proofs.Steps.{same_item_is, same_item_self}

@@ -1,11 +1,11 @@
 -- A new name of an item clashes with that of no other live item: each of these clashes with one of the
 -- candidates at most, and there are more candidates than live items.
-use Rattle.std.proofs.Common.{◌≡◌, ◌≢◌, ◌⊎◌, ℕ, zero, suc, ◌+◌, ◌-◌, ◌*◌, ◌^◌, ◌<◌, ◌≤◌, ◌&&◌, not, nat_eq, nat_le, Bool, true, false, true≢false, if◌then◌else◌, List, [], ◌∷◌, ◌++◌, length, take, drop, decimal, cond, Option, Some, None, min, arith, inl, inr, refl, sym, ◌∙◌, ap, subst, append_assoc}
+use Rattle.std.proofs.Common.{◌≡◌, ◌≢◌, ◌⊎◌, ℕ, zero, suc, ◌+◌, ◌-◌, ◌^◌, ◌<◌, ◌≤◌, not, nat_eq, nat_le, Bool, true, false, true≢false, if◌then◌else◌, List, [], ◌∷◌, ◌++◌, length, take, drop, decimal, cond, Option, Some, None, min, arith, inl, inr, refl, sym, ◌∙◌, ap, subst}
 use Rattle.std.specs.List.{before_first, position_or_len}
 use Rattle.std.specs.Option.{option_map_or}
 use Rattle.std.specs.Str.Parse.{AllDigits, digits_value}
 use Rattle.std.specs.Fmt.Cut.{floor_char_boundary}
-use Rattle.std.proofs.lemmas.Bool.{and_parts, cases_eq, eqb-true, eq-eqb}
+use Rattle.std.proofs.lemmas.Bool.{and_parts, eqb-true, eq-eqb}
 use Rattle.std.proofs.lemmas.Fmt.{decimal_is_IsNumeral_wide}
 use Rattle.std.proofs.lemmas.List.Recursion.{is_position_or_len}
 use Rattle.sfx_ids.specs.declared.item_id.ItemId.{ItemId}
@@ -17,11 +17,10 @@ use Rattle.sfx_item.proofs.Decisions.{clash_decided}
 use Rattle.sfx_knowledge.proofs.Compares.{Tested, yes_it, not_it, tested}
 use Rattle.sfx_model.specs.Sets.{Has}
 use Rattle.sfx_model.specs.Consistent.{live_name}
-use Rattle.sfx_model.specs.Events.{same_item}
 use Rattle.sfx_model.specs.Headline.{live_item, live_items}
 use Rattle.sfx_model.specs.Members.{ItemState, Live, Dead, MemberItem}
 use Rattle.sfx_model.specs.Readings.{is_clashing, is_excepted, is_in_the_way, clashing_with}
-use Rattle.sfx_model.specs.Renamed.{tilde, is_mark, without_mark, mark_of, text_front, within_size, renamed, is_free, first_free, new_name}
+use Rattle.sfx_model.specs.Renamed.{tilde, is_mark, without_mark, mark_of, text_front, renamed, is_free, first_free, new_name}
 use Rattle.sfx_model.proofs.Naming.{IsFree, clash_lists}
 
 -- ---- the first component of a name

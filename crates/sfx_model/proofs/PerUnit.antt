@@ -1,7 +1,7 @@
 -- Lists that have something for each unit.
-use Rattle.std.proofs.Common.{◌≡◌, ◌≢◌, ◌⊎◌, ℕ, zero, suc, ◌+◌, ◌<◌, ◌≤◌, ◌&&◌, ◌||◌, Bool, true, false, true≢false, List, [], ◌∷◌, length, map, replicate, take, drop, get_or, Option, Some, None, slice_get, arith, inl, inr, refl, sym, ◌∙◌, ap, subst}
+use Rattle.std.proofs.Common.{◌≡◌, ◌≢◌, ℕ, zero, suc, ◌<◌, ◌≤◌, ◌||◌, Bool, true, false, true≢false, List, [], ◌∷◌, length, map, replicate, Option, Some, slice_get, arith, inl, inr, refl, sym, ◌∙◌, ap, subst}
 use Rattle.std.specs.Prelude.{slice_set}
-use Rattle.std.specs.List.{range_with_len, list_any, list_all}
+use Rattle.std.specs.List.{list_any, list_all}
 use Rattle.std.specs.Option.{unwrap_or, option_map}
 use Rattle.std.proofs.lemmas.Bool.{cases_eq, and_parts}
 use Rattle.std.proofs.lemmas.List.{get_or-replicate, get_or-set_same, get_or-set_other}
@@ -9,7 +9,7 @@ use Rattle.std.proofs.lemmas.List.Folds.{list_any_at}
 use Rattle.std.proofs.lemmas.List.FromFn.{get_or-map-range_with_len, length-map-range_with_len}
 use Rattle.std.proofs.lemmas.Option.{unwrap_or-slice_get, slice_get-get_or, slice_get-map, slice_get_within, slice_get_past}
 use Rattle.sfx_model.specs.Events.{some_unit}
-use Rattle.sfx_model.specs.Units.{each_unit, every_unit, at_unit}
+use Rattle.sfx_model.specs.Units.{each_unit, at_unit}
 
 -- What the list has for a unit.
 pub at_get : {A : Type 0} (xs : List A) (u : ℕ) (x d : A) → slice_get xs u ≡ Some x → at_unit xs u d ≡ x

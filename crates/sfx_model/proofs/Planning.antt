@@ -1,10 +1,9 @@
 -- The plan of an entry: the other items that it changes are live and listed once, and afterwards live names
 -- do not clash.
-use Rattle.std.proofs.Common.{◌≡◌, ◌≢◌, ◌⊎◌, ℕ, ◌+◌, ◌<◌, ◌≤◌, Bool, true, false, true≢false, if◌then◌else◌, List, [], ◌∷◌, length, Option, Some, None, arith, inl, inr, refl, sym, ◌∙◌, ap, subst}
+use Rattle.std.proofs.Common.{◌≡◌, ◌≢◌, ◌⊎◌, ℕ, ◌≤◌, Bool, true, false, if◌then◌else◌, List, [], ◌∷◌, length, Option, Some, None, arith, inl, inr, refl, sym, ◌∙◌, ap, subst}
 use Rattle.std.specs.Prelude.{slice_get, slice_set}
 use Rattle.std.specs.List.{list_any}
 use Rattle.std.specs.Option.{option_map, option_and_then}
-use Rattle.std.proofs.lemmas.Option.{slice_get_cases}
 use Rattle.sfx_ids.specs.declared.item_id.ItemId.{ItemId}
 use Rattle.sfx_ids.specs.declared.version.Version.{Version}
 use Rattle.sfx_ids.specs.ItemId.{IsItemId}
@@ -17,24 +16,24 @@ use Rattle.sfx_model.specs.declared.clash_rule.ClashRule.TheVariants.{Source, De
 use Rattle.sfx_model.specs.declared.mark.Mark.{Mark}
 use Rattle.sfx_model.specs.declared.mark.Mark.TheVariants.{Stays, Taken, Stamped, Left, Gone}
 use Rattle.sfx_model.specs.Sets.{Has}
-use Rattle.sfx_model.specs.Clashes.{Plan, clash_draft, with_name, plan_among, plan_named, drafted_name, plan_of}
+use Rattle.sfx_model.specs.Clashes.{clash_draft, plan_among, plan_named, drafted_name, plan_of}
 use Rattle.sfx_model.specs.Consistent.{live_name, AreApart}
 use Rattle.sfx_model.specs.Deeds.{version_behind, name_given}
-use Rattle.sfx_model.specs.Draft.{Draft, all_marked, cells_of}
-use Rattle.sfx_model.specs.Entry.{Changing, is_stamped, is_taken, is_gone, cell_after, cells_after, brought, state_after, no_cell, other_name, renamed_state, other_state, change_other, change_others}
+use Rattle.sfx_model.specs.Draft.{Draft, cells_of}
+use Rattle.sfx_model.specs.Entry.{Changing, is_stamped, is_taken, is_gone, cell_after, cells_after, brought, state_after, no_cell, other_name, other_state, change_other, change_others}
 use Rattle.sfx_model.specs.Members.{ItemState, Live, Dead, MemberItem, AreRising, state_of}
 use Rattle.sfx_model.specs.Putting.{with_state_of}
 use Rattle.sfx_model.specs.Readings.{clashing_with}
 use Rattle.sfx_model.specs.Renamed.{new_name}
 use Rattle.sfx_model.specs.Results.{cell_at}
 use Rattle.sfx_model.specs.Units.{each_unit, at_unit}
-use Rattle.sfx_model.proofs.PerUnit.{at_get, get_at, get_each, any_none}
+use Rattle.sfx_model.proofs.PerUnit.{get_at, get_each, any_none}
 use Rattle.sfx_model.proofs.Putting.{state_given, state_kept, rising_given}
-use Rattle.sfx_model.proofs.Shaping.{HaveMark, IsLiveUnit, IsLiveDraft, Shape, KeepsAll, LeavesAll, DropsAll, DeletesAll, TakesDead, MakesLive, IsShaped, marked_long, marked_have}
+use Rattle.sfx_model.proofs.Shaping.{IsLiveUnit, IsLiveDraft, Shape, KeepsAll, LeavesAll, DropsAll, DeletesAll, TakesDead, MakesLive, IsShaped}
 use Rattle.sfx_model.proofs.Drafted.{none_pass, one_passes, listed_at}
-use Rattle.sfx_model.proofs.Clashing.{no_name, stamped_name}
+use Rattle.sfx_model.proofs.Clashing.{stamped_name}
 use Rattle.sfx_model.proofs.Counting.{AreIds, names_free, ids_given}
-use Rattle.sfx_model.proofs.Naming.{IsNamed, IsClashing, IsFree, AreOnce, AreApartBut, KeepItems, clash_listed, clash_lists, clash_once, apart_all, apart_tests, apart_changed, apart_other, one_name, named_cells}
+use Rattle.sfx_model.proofs.Naming.{IsNamed, IsClashing, IsFree, AreOnce, AreApartBut, clash_listed, clash_lists, clash_once, apart_all, apart_tests, apart_changed, apart_other}
 
 -- ---- the name of the state afterwards
 

@@ -1,5 +1,5 @@
 -- Items put into a list in order of its ids, and dropped from it.
-use Rattle.std.proofs.Common.{◌≡◌, ◌≢◌, ◌⊎◌, Bool, true, false, true≢false, if◌then◌else◌, List, [], ◌∷◌, Option, Some, None, inl, inr, refl, sym, ◌∙◌, ap, subst}
+use Rattle.std.proofs.Common.{◌≡◌, ◌≢◌, ◌⊎◌, Bool, true, false, if◌then◌else◌, List, [], ◌∷◌, Option, Some, None, inl, inr, refl, sym, ◌∙◌, ap, subst}
 use Rattle.sfx_ids.specs.declared.item_id.ItemId.{ItemId}
 use Rattle.sfx_model.specs.Sets.{Has}
 use Rattle.sfx_model.specs.Events.{same_item}
@@ -7,7 +7,7 @@ use Rattle.sfx_model.specs.Members.{MemberItem, ItemState, AreRising, IsIdBelow,
 use Rattle.sfx_model.specs.States.{is_id_below, with_state}
 use Rattle.sfx_model.specs.Putting.{put_item, drop_item, with_state_of}
 use Rattle.sfx_model.proofs.Steps.{same_item_is, same_item_self}
-use Rattle.sfx_model.proofs.Rising.{before_differs, before_trans, state_below, state_here, state_behind, other_item}
+use Rattle.sfx_model.proofs.Rising.{before_differs, before_trans, state_below, state_here, state_behind}
 use Rattle.sfx_model.proofs.Placing.{below_is, above_is, before_all}
 
 abbrev item_with : ItemId → ItemState → MemberItem

@@ -1,35 +1,30 @@
 -- A batch's range that is learned: its events may happen, and the destination afterwards represents its
 -- site.
-use Rattle.std.proofs.Common.{◌≡◌, ◌≢◌, ◌⊎◌, ◌↔◌, ℕ, ◌<◌, ◌≤◌, max, Bool, true, false, true≢false, if◌then◌else◌, List, [], ◌∷◌, ◌++◌, map, Option, Some, None, IsSomeAnd, arith, inl, inr, refl, sym, ◌∙◌, ap, subst, le_refl, le_trans}
+use Rattle.std.proofs.Common.{◌≡◌, ℕ, ◌<◌, ◌≤◌, max, Bool, true, false, if◌then◌else◌, List, [], ◌∷◌, ◌++◌, Option, Some, IsSomeAnd, arith, inl, inr, refl, sym, subst, le_refl, le_trans}
 use Rattle.std.proofs.lemmas.List.{map-append}
 use Rattle.sfx_ids.specs.declared.cut.Cut.{Cut}
 use Rattle.sfx_ids.specs.declared.cut.Cut.TheVariants.{Start, At, End}
 use Rattle.sfx_ids.specs.declared.item_id.ItemId.{ItemId}
 use Rattle.sfx_ids.specs.declared.version.Version.{Version}
 use Rattle.sfx_ids.specs.Cut.{is_between}
-use Rattle.sfx_vector.specs.Clocks.{tick_of}
-use Rattle.sfx_knowledge.specs.Knowledge.{IsKnowledge, tick_at}
-use Rattle.sfx_knowledge.specs.Forgotten.{fvec}
+use Rattle.sfx_knowledge.specs.Knowledge.{tick_at}
 use Rattle.sfx_knowledge.specs.Skips.{is_skipped}
 use Rattle.sfx_model.specs.declared.mode.Mode.{Mode}
 use Rattle.sfx_model.specs.declared.mode.Mode.TheVariants.{Normal, Recover}
 use Rattle.sfx_model.specs.Sets.{IsPart}
 use Rattle.sfx_model.specs.World.{Record, World, Site, Snapshot, WellFormed, IsSound, IsSoundItem, Made, holding}
-use Rattle.sfx_model.specs.Events.{Event, Deed, Forget, Learn, LearnFrom, site_of, site_forgot, forgot, after, Legal, AllLegal, after_all, is_in, IsKnownHere, IsAbsentInBoth, LearnLegal}
+use Rattle.sfx_model.specs.Events.{Forget, Learn, LearnFrom, site_of, site_forgot, forgot, after, Legal, after_all, LearnLegal}
 use Rattle.sfx_model.specs.Acting.{IsOrderly, Supplies, IsGone, RangeFits}
 use Rattle.sfx_model.specs.Batch.{Batch}
 use Rattle.sfx_model.specs.Deeds.{forget_deeds, range_deeds, seen_by, events_with}
-use Rattle.sfx_model.specs.Entry.{forgets_by}
-use Rattle.sfx_model.specs.Knowing.{stored_known}
 use Rattle.sfx_model.specs.Members.{Member, Represents, shown}
 use Rattle.sfx_model.specs.Replica.{RepresentsReplica}
-use Rattle.sfx_model.specs.Results.{Backs, BacksRange}
+use Rattle.sfx_model.specs.Results.{BacksRange}
 use Rattle.sfx_model.specs.Session.{after_range}
-use Rattle.sfx_model.proofs.Applying.{Forgets_in, forgotten_too, forget_acts, forgotten_form}
+use Rattle.sfx_model.proofs.Applying.{forgotten_too, forget_acts, forgotten_form}
 use Rattle.sfx_model.proofs.Learned.{learned_range}
 use Rattle.sfx_model.proofs.Replicas.{own_found, one_found, learn_replica}
-use Rattle.sfx_model.proofs.Sites.{found}
-use Rattle.sfx_model.proofs.Stepping.{AllOf, Leaves, of_append, after_append, legal_append, all_leave}
+use Rattle.sfx_model.proofs.Stepping.{Leaves, of_append, after_append, legal_append, all_leave}
 use Rattle.sfx_model.proofs.Storing.{stored_form, stored_has}
 use Rattle.sfx_model.proofs.Tasking.{TaskActs, forgotten_here, supplies_on}
 

@@ -1,48 +1,40 @@
 -- A batch that is due, and a whole session of such batches.
-use Rattle.std.proofs.Common.{◌≡◌, ◌≢◌, ◌⊎◌, ℕ, zero, suc, ◌+◌, ◌<◌, ◌≤◌, ◌&&◌, Bool, true, false, true≢false, if◌then◌else◌, List, [], ◌∷◌, ◌++◌, length, map, Option, Some, None, IsSomeAnd, slice_get, inl, inr, refl, sym, ◌∙◌, ap, subst, le_trans}
-use Rattle.std.specs.Option.{option_map}
+use Rattle.std.proofs.Common.{◌≡◌, ◌≢◌, ℕ, zero, suc, ◌<◌, ◌≤◌, ◌&&◌, Bool, true, false, if◌then◌else◌, List, [], ◌∷◌, ◌++◌, map, Option, Some, None, slice_get, inl, inr, refl, sym, ◌∙◌, ap, subst, le_trans}
 use Rattle.std.proofs.lemmas.Bool.{and_parts}
 use Rattle.std.proofs.lemmas.List.{map-append}
 use Rattle.sfx_ids.specs.declared.cut.Cut.{Cut}
-use Rattle.sfx_ids.specs.declared.cut.Cut.TheVariants.{Start, At}
+use Rattle.sfx_ids.specs.declared.cut.Cut.TheVariants.{At}
 use Rattle.sfx_ids.specs.declared.item_id.ItemId.{ItemId}
-use Rattle.sfx_ids.specs.Cut.{cut_lt, cut_le}
 use Rattle.sfx_ids.proofs.CutOrder.{le_or_lt, lt-le, le-self}
 use Rattle.sfx_vector.specs.Clocks.{Clocks, tick_of}
 use Rattle.sfx_segments.specs.Segments.{IsPlace, segment_at, AreSegments}
 use Rattle.sfx_knowledge.specs.Row.{UnitClocks, row_at}
-use Rattle.sfx_knowledge.specs.Knowledge.{Known, no_row, IsKnowledge, HasTicks, tick_at}
-use Rattle.sfx_knowledge.specs.Forgotten.{Forgets, AreForgets, fvec}
+use Rattle.sfx_knowledge.specs.Knowledge.{Known, no_row, tick_at}
+use Rattle.sfx_knowledge.specs.Forgotten.{Forgets, fvec}
 use Rattle.sfx_knowledge.specs.Forms.{starts_of}
 use Rattle.sfx_knowledge.proofs.Starts.{Found, found as segment_found}
 use Rattle.sfx_model.specs.declared.mode.Mode.{Mode}
 use Rattle.sfx_model.specs.declared.mode.Mode.TheVariants.{Normal, Recover}
 use Rattle.sfx_model.specs.declared.session_end.SessionEnd.{SessionEnd}
-use Rattle.sfx_model.specs.declared.clash_rule.ClashRule.{ClashRule}
 use Rattle.sfx_model.specs.Sets.{Has}
-use Rattle.sfx_model.specs.World.{World, Site, Snapshot, WellFormed}
-use Rattle.sfx_model.specs.Events.{Event, Deed, Own, ForgetFrom, ApplyFrom, LearnFrom, AllLegal, after, after_all, site_of, event_of, after_deed, after_deeds, IsLegalDeed, AreLegalDeeds, Legal, is_in}
+use Rattle.sfx_model.specs.World.{World, Site, Snapshot}
+use Rattle.sfx_model.specs.Events.{Event, Deed, after_all, is_in}
 use Rattle.sfx_model.specs.Acting.{IsOrderly}
-use Rattle.sfx_model.specs.Batch.{Batch, batch_from, mode_of, is_forgotten_everywhere}
+use Rattle.sfx_model.specs.Batch.{Batch, mode_of, is_forgotten_everywhere}
 use Rattle.sfx_model.specs.Class.{is_within}
-use Rattle.sfx_model.specs.Clashes.{Plan}
-use Rattle.sfx_model.specs.Deeds.{forget_deeds, others_deeds, changed_first, task_deeds, range_deeds, deeds_or, go_deeds, batch_deeds, deeds_unless, deeds_from, session_deeds, seen_by, events_with}
-use Rattle.sfx_model.specs.Entry.{Task, Changing, change_other, task_plan}
+use Rattle.sfx_model.specs.Deeds.{batch_deeds, deeds_unless, deeds_from, seen_by, events_with}
 use Rattle.sfx_model.specs.Knowing.{laid_known, forgets_starts}
-use Rattle.sfx_model.specs.Members.{Member, shown, vector_at}
-use Rattle.sfx_model.specs.Replica.{RepresentsReplica}
+use Rattle.sfx_model.specs.Members.{Member, vector_at}
 use Rattle.sfx_model.specs.Rules.{Rules}
-use Rattle.sfx_model.specs.Session.{Progress, Outcome, Course, SessionResult, begin, applied, go, lefts, stop_before, with_entry, is_more, tasks_of, with_batch, ending, ended, session_from, session_of, set_out}
-use Rattle.sfx_model.specs.Snapshots.{AreWithin}
+use Rattle.sfx_model.specs.Session.{Outcome, Course, begin, applied, tasks_of, with_batch, ending, ended, session_from}
 use Rattle.sfx_model.proofs.Batching.{GoesOn, KnowsMore, more_self, more_on, acts_none, acts_on, go_acts}
 use Rattle.sfx_model.proofs.Beginning.{ForgottenKnown, due_so_far}
 use Rattle.sfx_model.proofs.Comparing.{laid_has, laid_form}
 use Rattle.sfx_model.proofs.Due.{due_batch, due_from, due_fit}
 use Rattle.sfx_model.specs.Units.{every_unit}
 use Rattle.sfx_model.proofs.Knowing.{every_is, within_is}
-use Rattle.sfx_model.proofs.Sites.{found}
 use Rattle.sfx_model.proofs.Sourcing.{Ready, ready_on}
-use Rattle.sfx_model.proofs.Stepping.{AllOf, Leaves, all_leave, event_leaves}
+use Rattle.sfx_model.proofs.Stepping.{all_leave}
 use Rattle.sfx_model.proofs.Tasking.{TaskActs}
 
 -- ---- a batch

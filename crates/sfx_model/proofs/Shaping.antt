@@ -1,16 +1,11 @@
 -- The shapes that drafts have, and that each class gives a draft of such a shape whose units may have
 -- their marks.
-use Rattle.std.proofs.Common.{◌≡◌, ◌≢◌, ◌⊎◌, ℕ, ◌<◌, ◌≤◌, Bool, true, false, true≢false, if◌then◌else◌, List, [], ◌∷◌, length, map, replicate, Option, Some, None, slice_get, arith, inl, inr, refl, sym, ◌∙◌, ap, subst}
-use Rattle.std.specs.List.{list_all}
+use Rattle.std.proofs.Common.{◌≡◌, ◌⊎◌, ℕ, ◌<◌, Bool, true, false, List, [], length, map, Option, Some, None, slice_get, arith, inl, inr, refl, sym, ◌∙◌, ap, subst}
 use Rattle.std.specs.Option.{option_map, option_map_or, option_or}
 use Rattle.std.proofs.lemmas.List.{length-map, length-replicate}
 use Rattle.std.proofs.lemmas.Option.{slice_get-map}
-use Rattle.sfx_ids.specs.declared.cut.Cut.{Cut}
-use Rattle.sfx_ids.specs.declared.cut.Cut.TheVariants.{At}
 use Rattle.sfx_ids.specs.declared.item_id.ItemId.{ItemId}
-use Rattle.sfx_ids.specs.ItemId.{creation_of}
 use Rattle.sfx_item.specs.declared.cell.Cell.{Cell}
-use Rattle.sfx_knowledge.proofs.Compares.{yes_it, not_it, tested}
 use Rattle.sfx_model.specs.declared.keep.Keep.{Keep}
 use Rattle.sfx_model.specs.declared.keep.Keep.TheVariants.{Source, Destination, Merge, Skip}
 use Rattle.sfx_model.specs.declared.mark.Mark.{Mark}
@@ -20,10 +15,9 @@ use Rattle.sfx_model.specs.World.{World, Site, Snapshot, Record, Holding}
 use Rattle.sfx_model.specs.Events.{TakeLegal, DropLegal}
 use Rattle.sfx_model.specs.Members.{ItemState, Live, Dead, ItemRepresents}
 use Rattle.sfx_model.specs.Results.{cell_at}
-use Rattle.sfx_model.specs.Draft.{Draft, all_marked, cells_of, values_of, value_in, whole_draft, is_left}
-use Rattle.sfx_model.specs.Entry.{is_stamped, is_taken}
-use Rattle.sfx_model.specs.Units.{each_unit, at_unit}
-use Rattle.sfx_model.proofs.PerUnit.{at_get, get_at, at_each, length_each, at_replicate}
+use Rattle.sfx_model.specs.Draft.{Draft, all_marked, values_of, value_in, whole_draft}
+use Rattle.sfx_model.specs.Units.{at_unit}
+use Rattle.sfx_model.proofs.PerUnit.{at_get, at_replicate}
 use Rattle.sfx_model.proofs.Headline.{cell_there}
 
 -- Each unit has this mark.

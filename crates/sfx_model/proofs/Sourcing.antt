@@ -1,14 +1,11 @@
 -- A source that represents its site: what comes with its batches backs that site as a snapshot.
-use Rattle.std.proofs.Common.{◌≡◌, ◌≢◌, ℕ, ◌<◌, ◌≤◌, List, Option, Some, refl, sym, ◌∙◌, ap, subst}
+use Rattle.std.proofs.Common.{◌≡◌, ◌≢◌, ℕ, ◌≤◌, List, Some, sym, ◌∙◌, subst}
 use Rattle.sfx_ids.specs.declared.cut.Cut.{Cut}
-use Rattle.sfx_ids.specs.declared.cut.Cut.TheVariants.{Start, At, End}
+use Rattle.sfx_ids.specs.declared.cut.Cut.TheVariants.{At}
 use Rattle.sfx_ids.specs.declared.item_id.ItemId.{ItemId}
-use Rattle.sfx_vector.specs.Clocks.{tick_of}
 use Rattle.sfx_knowledge.specs.Knowledge.{Known, HasTicks, IsKnowledge, tick_at}
-use Rattle.sfx_knowledge.specs.Forgotten.{fvec}
-use Rattle.sfx_model.specs.Sets.{Has}
 use Rattle.sfx_model.specs.World.{World, Site, WellFormed, IsSound}
-use Rattle.sfx_model.specs.Events.{Event, AllLegal, after_all, site_of}
+use Rattle.sfx_model.specs.Events.{Event, after_all, site_of}
 use Rattle.sfx_model.specs.Acting.{IsOrderly, Supplies}
 use Rattle.sfx_model.specs.Batch.{Batch}
 use Rattle.sfx_model.specs.Knowing.{laid_known}
@@ -20,7 +17,7 @@ use Rattle.sfx_model.proofs.Comparing.{laid_has, laid_form}
 use Rattle.sfx_model.proofs.Headline.{made_below}
 use Rattle.sfx_model.proofs.Replicas.{one_found}
 use Rattle.sfx_model.proofs.Sites.{found}
-use Rattle.sfx_model.proofs.Stepping.{Leaves, all_leave}
+use Rattle.sfx_model.proofs.Stepping.{all_leave}
 use Rattle.sfx_model.proofs.Tasking.{TaskActs}
 
 -- The batch has the source's id, knowledge and forgotten deletions.

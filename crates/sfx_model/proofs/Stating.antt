@@ -1,17 +1,17 @@
 -- A state of all members goes on representing the world while one replica acts, event by event.
-use Rattle.std.proofs.Common.{◌≡◌, ◌≢◌, ℕ, nat_eq, Bool, true, false, if◌then◌else◌, List, [], ◌∷◌, ◌++◌, Option, Some, None, inl, inr, refl, sym, ◌∙◌, ap, subst}
+use Rattle.std.proofs.Common.{◌≡◌, ◌≢◌, ℕ, nat_eq, Bool, true, false, if◌then◌else◌, List, [], ◌∷◌, Some, refl, sym, ◌∙◌, ap, subst}
 use Rattle.std.proofs.lemmas.Bool.{eqb-true, eq-eqb, ne_eqb}
 use Rattle.sfx_model.specs.Sets.{Has}
 use Rattle.sfx_model.specs.World.{World, Site, WellFormed}
 use Rattle.sfx_model.specs.Events.{Event, AllLegal, after, after_all, site_of, put_site}
-use Rattle.sfx_model.specs.Members.{Member, NamedMember, Community, Represents, RepresentsNamed, RepresentsAll, RepresentsWorld, AreRising, shown}
+use Rattle.sfx_model.specs.Members.{Member, NamedMember, Community, RepresentsNamed, RepresentsAll, RepresentsWorld, AreRising, shown}
 use Rattle.sfx_model.specs.Replica.{RepresentsReplica}
 use Rattle.sfx_model.specs.States.{ChangesMember}
 use Rattle.sfx_model.proofs.Communities.{replaced}
 use Rattle.sfx_model.proofs.Keeping.{event_keeps}
 use Rattle.sfx_model.proofs.Replicas.{one_found, own_found}
 use Rattle.sfx_model.proofs.Sites.{found, site_there}
-use Rattle.sfx_model.proofs.Stepping.{IsStep, one_step, AllOf, Leaves, all_leave}
+use Rattle.sfx_model.proofs.Stepping.{one_step, AllOf, Leaves, all_leave}
 
 -- A site put in its own place changes nothing, and of two put there the last one counts.
 put_same : (ss : List Site) (s : Site) → site_of ss s.id ≡ Some s → put_site s ss ≡ ss

@@ -1,11 +1,10 @@
 -- Events that one replica does at its own site, one after another.
-use Rattle.std.proofs.Common.{◌≡◌, ◌≢◌, ℕ, ◌≤◌, Bool, List, [], ◌∷◌, ◌++◌, Option, Some, None, IsSomeAnd, inl, inr, refl, sym, ◌∙◌, ap, subst, le_refl, le_trans}
+use Rattle.std.proofs.Common.{◌≡◌, ◌≢◌, ℕ, ◌≤◌, List, [], ◌∷◌, ◌++◌, Option, Some, refl, sym, ◌∙◌, ap, subst, le_refl, le_trans}
 use Rattle.sfx_ids.specs.declared.cut.Cut.{Cut}
 use Rattle.sfx_ids.specs.declared.item_id.ItemId.{ItemId}
-use Rattle.sfx_ids.specs.declared.version.Version.{Version}
-use Rattle.sfx_model.specs.Sets.{Has, IsPart}
+use Rattle.sfx_model.specs.Sets.{IsPart}
 use Rattle.sfx_model.specs.World.{Record, World, Site, Snapshot, WellFormed}
-use Rattle.sfx_model.specs.Events.{Event, Units, Widen, Join, Make, Clean, Forget, Apply, Learn, site_of, put_site, at_site, after, Legal, AllLegal, after_all, recorded, site_made, site_cleaned, site_forgot, site_applied, site_learned, made, cleaned, forgot, applied, learned, MakeLegal, CleanLegal, ApplyLegal, LearnLegal}
+use Rattle.sfx_model.specs.Events.{Event, Units, Widen, Join, Make, Clean, Forget, Apply, Learn, site_of, put_site, after, Legal, AllLegal, after_all, recorded, site_made, site_cleaned, site_forgot, site_applied, site_learned, made, cleaned, forgot, applied, learned, MakeLegal, CleanLegal, ApplyLegal, LearnLegal}
 use Rattle.sfx_model.specs.Members.{ItemState, Shown, clock_of}
 use Rattle.sfx_model.specs.Replica.{IsOfOthers, RepresentsReplica}
 use Rattle.sfx_model.specs.Snapshots.{KeepsUnits, Carried}

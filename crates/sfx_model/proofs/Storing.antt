@@ -1,26 +1,15 @@
 -- The lists that a member keeps after it learned: they are in their one form, and have the ticks of
 -- learning.
-use Rattle.std.proofs.Common.{◌≡◌, ◌≢◌, ◌⊎◌, ℕ, ◌<◌, ◌≤◌, ◌^◌, max, not, ◌&&◌, ◌||◌, Bool, true, false, true≢false, if◌then◌else◌, nat_eq, List, [], ◌∷◌, ◌++◌, map, arith, inl, inr, refl, sym, ◌∙◌, ap, subst}
-use Rattle.std.specs.List.{flat_map}
-use Rattle.sfx_ids.specs.Tick.{max_tick}
+use Rattle.std.proofs.Common.{◌≡◌, ℕ, ◌<◌, ◌≤◌, ◌^◌, ◌&&◌, false, List, [], ◌∷◌, ◌++◌, arith, refl, sym, ◌∙◌}
 use Rattle.sfx_ids.specs.declared.cut.Cut.{Cut}
-use Rattle.sfx_ids.specs.declared.cut.Cut.TheVariants.{Start, At, After, End}
 use Rattle.sfx_ids.specs.declared.item_id.ItemId.{ItemId}
-use Rattle.sfx_ids.specs.Cut.{cut_lt, cut_le, is_between}
-use Rattle.sfx_ids.proofs.CutOrder.{le-self, lt-le, le-not_lt, not_le, le_trans, le_cases, at-lt-after, after-le, lt_le_trans, le_lt_trans, lt-self}
-use Rattle.sfx_vector.specs.Clocks.{Clocks, AreClocks, tick_of}
-use Rattle.sfx_segments.specs.Segments.{IsPlace, segment_at, AreSegments}
-use Rattle.sfx_segments.proofs.Places.{lt-end}
-use Rattle.sfx_knowledge.specs.Row.{row_at}
-use Rattle.sfx_knowledge.specs.Knowledge.{Known, no_row, Ticks, HasTicks, IsKnowledge, tick_at, clocks_at, learned, laid_over}
-use Rattle.sfx_knowledge.specs.Skips.{same_cell, is_skipped, is_skipped_at}
-use Rattle.sfx_knowledge.specs.Forms.{AreTicks, ArePlaces, AreReplicas, ChangeAtAlone, is_parted, is_listed, knowledge_of, starts_of, replicas_of, with_own}
-use Rattle.sfx_knowledge.proofs.Compares.{or-left, or-right, yes_it, not_it, Tested, tested}
-use Rattle.sfx_knowledge.proofs.Clocks.{AreReplicas-append, listed-append, tick-most}
-use Rattle.sfx_knowledge.proofs.Known.{AreClocks-clocks_at, one_knowledge}
-use Rattle.sfx_knowledge.proofs.Making.{form-knowledge_of, ticks-knowledge_of, ArePlaces-starts_of, segment-unparted, AreReplicas-known, tick-unlisted_known, IsKnowledge-with_own, ticks-with_own}
-use Rattle.sfx_knowledge.proofs.SkipForms.{cells_same}
-use Rattle.sfx_model.specs.Knowing.{place_of, skip_cuts, learned_known, stored_known}
+use Rattle.sfx_ids.specs.Cut.{cut_lt, cut_le}
+use Rattle.sfx_knowledge.specs.Knowledge.{Known, HasTicks, IsKnowledge, tick_at, learned, laid_over}
+use Rattle.sfx_knowledge.specs.Forms.{ArePlaces, is_parted}
+use Rattle.sfx_knowledge.proofs.Compares.{or-left, or-right}
+use Rattle.sfx_knowledge.proofs.Known.{one_knowledge}
+use Rattle.sfx_knowledge.proofs.Making.{IsKnowledge-with_own, ticks-with_own}
+use Rattle.sfx_model.specs.Knowing.{learned_known, stored_known}
 use Rattle.sfx_model.proofs.Knowing.{learned_known_is}
 use Rattle.sfx_model.proofs.Learned.{ticks_laid}
 

@@ -1,48 +1,44 @@
 -- One task of a batch: its events may happen one after another, and the destination afterwards represents
 -- its site.
-use Rattle.std.proofs.Common.{◌≡◌, ◌≢◌, ◌⊎◌, ℕ, ◌+◌, ◌-◌, ◌<◌, ◌≤◌, nat_lt, Bool, true, false, true≢false, if◌then◌else◌, List, [], ◌∷◌, ◌++◌, length, map, Option, Some, None, arith, inl, inr, refl, sym, ◌∙◌, ap, subst, le_trans}
+use Rattle.std.proofs.Common.{◌≡◌, ℕ, ◌+◌, ◌-◌, ◌<◌, ◌≤◌, nat_lt, Bool, true, false, if◌then◌else◌, List, ◌∷◌, ◌++◌, length, Option, Some, None, arith, inl, inr, refl, sym, ◌∙◌, subst, le_trans}
 use Rattle.std.specs.List.{list_any}
 use Rattle.std.proofs.lemmas.Bool.Decides.{nat_tests}
 use Rattle.std.proofs.lemmas.List.{map-append}
 use Rattle.sfx_ids.specs.Tick.{max_tick}
-use Rattle.sfx_ids.specs.declared.cut.Cut.{Cut}
-use Rattle.sfx_ids.specs.declared.cut.Cut.TheVariants.{Start, At, After, End}
+use Rattle.sfx_ids.specs.declared.cut.Cut.TheVariants.{At, After}
 use Rattle.sfx_ids.specs.declared.item_id.ItemId.{ItemId}
 use Rattle.sfx_ids.specs.ItemId.{IsItemId}
 use Rattle.sfx_vector.specs.Clocks.{tick_of}
-use Rattle.sfx_item.specs.declared.cell.Cell.{Cell}
-use Rattle.sfx_knowledge.specs.Knowledge.{Known, HasTicks, IsKnowledge, tick_at}
-use Rattle.sfx_knowledge.specs.Forgotten.{Forgets, fvec}
-use Rattle.sfx_knowledge.proofs.Compares.{Tested, yes_it, not_it, tested}
+use Rattle.sfx_knowledge.specs.Knowledge.{IsKnowledge, tick_at}
+use Rattle.sfx_knowledge.specs.Forgotten.{fvec}
 use Rattle.sfx_model.specs.declared.mode.Mode.{Mode}
 use Rattle.sfx_model.specs.declared.mode.Mode.TheVariants.{Normal, Recover}
 use Rattle.sfx_model.specs.Sets.{Has}
-use Rattle.sfx_model.specs.World.{World, Site, Snapshot, WellFormed, IsSound, holding}
-use Rattle.sfx_model.specs.Events.{Event, Deed, Apply, ApplyFrom, Legal, AllLegal, after, after_all, site_of}
+use Rattle.sfx_model.specs.World.{World, Site, Snapshot, WellFormed}
+use Rattle.sfx_model.specs.Events.{Event, Deed, Apply, ApplyFrom, AllLegal, after, after_all}
 use Rattle.sfx_model.specs.Acting.{IsOrderly, Supplies}
 use Rattle.sfx_model.specs.Batch.{Batch}
 use Rattle.sfx_model.specs.Clashes.{Plan, plan_of}
 use Rattle.sfx_model.specs.Deeds.{marks_in, others_deeds, forget_deeds, changed_first, task_deeds, seen_by, events_with}
-use Rattle.sfx_model.specs.Draft.{Draft, draft_of, absent_draft}
-use Rattle.sfx_model.specs.Entry.{Task, Unlisted, Change, Changing, is_stamped, task_item, task_seen, task_draft, task_plan, unlisted_class, forgets_by, ticks_needed, lacks, clock_after, state_after, left_from, changed_by, change_others, after_task}
-use Rattle.sfx_model.specs.Knowing.{laid_known, stored_known}
-use Rattle.sfx_model.specs.Members.{Member, ItemState, Represents, AreRising, shown, state_of, vector_at}
-use Rattle.sfx_model.specs.Putting.{with_state_of}
+use Rattle.sfx_model.specs.Draft.{Draft, absent_draft}
+use Rattle.sfx_model.specs.Entry.{Task, Unlisted, Change, is_stamped, task_item, task_seen, task_draft, task_plan, unlisted_class, lacks, clock_after, state_after, left_from, changed_by, change_others, after_task}
+use Rattle.sfx_model.specs.Knowing.{laid_known}
+use Rattle.sfx_model.specs.Members.{Member, ItemState, Represents, AreRising, shown, state_of}
 use Rattle.sfx_model.specs.Replica.{RepresentsReplica}
 use Rattle.sfx_model.specs.Rules.{Rules}
-use Rattle.sfx_model.specs.Snapshots.{Carried, Meets}
+use Rattle.sfx_model.specs.Snapshots.{Carried}
 use Rattle.sfx_model.specs.States.{next_version}
-use Rattle.sfx_model.proofs.Applying.{Forgets_in, forgotten_too, forget_acts, forgotten_form, entered, IsKnownItem, Enters, entry_acts, changing, AreWaiting, OthersAct, others_act}
+use Rattle.sfx_model.proofs.Applying.{forgotten_too, forget_acts, forgotten_form, entered, IsKnownItem, Enters, entry_acts, changing, AreWaiting, OthersAct, others_act}
 use Rattle.sfx_model.proofs.Clashing.{plan_fits}
 use Rattle.sfx_model.proofs.Comparing.{laid_has}
 use Rattle.sfx_model.proofs.Counting.{AreIds, ids_given, seen_fits, held_fits, member_ids}
-use Rattle.sfx_model.proofs.Fitting.{Fits, Compared, change_fits, unlisted_fits}
+use Rattle.sfx_model.proofs.Fitting.{Fits, change_fits, unlisted_fits}
 use Rattle.sfx_model.proofs.Forgetting.{forgot_all}
 use Rattle.sfx_model.proofs.Naming.{AreApartBut, named_cells}
 use Rattle.sfx_model.proofs.Planning.{plan_apart, plan_others, plan_once, others_apart}
 use Rattle.sfx_model.proofs.Putting.{state_kept, rising_given}
 use Rattle.sfx_model.proofs.Sites.{found}
-use Rattle.sfx_model.proofs.Stepping.{AllOf, Leaves, of_append, after_append, legal_append, all_leave, event_leaves, leaves_on}
+use Rattle.sfx_model.proofs.Stepping.{AllOf, Leaves, of_append, after_append, legal_append, all_leave, event_leaves}
 use Rattle.sfx_model.proofs.Storing.{stored_form}
 use Rattle.sfx_model.proofs.Learned.{everywhere}
 
