@@ -40,6 +40,13 @@ impl<const U: usize> Model for Batch<U> {
 }
 
 impl<const U: usize> Batch<U> {
+    /// Does nothing. The batch is a right one.
+    pub fn keeps(&self)
+        ensures batch { IsBatch U self.now }
+    {
+        let _to = &self.to;
+    }
+
     /// Whether the batch reaches the end, so that none follows it.
     pub fn last(&self) -> bool
         ensures value { IsTrue result ↔ (self.now.to ≡ End) }

@@ -113,7 +113,7 @@ whole_session_acts w source m rules size cut ok apart (snapshot, at, rep) stands
 
 -- ---- a state of all members
 
-member_stands :
+pub member_stands :
     (w : World) (c : Community) (m : Member) → WellFormed w → RepresentsWorld w c → IsMemberOf c m → RepresentsReplica w m.id (shown m)
 member_stands w c m ok rep (x, has, is) =
     let (s, there, named) = named_site w w.sites c.members x rep.members has in

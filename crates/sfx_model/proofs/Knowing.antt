@@ -50,7 +50,7 @@ within_is clocks known place u all r = elim (tested (is_listed (listed_in clocks
   | not_it not ↦ subst (λ (t : ℕ). t ≤ tick_at known place u r) (sym (tick-unlisted clocks r not)) (omega arith)
 ]
 
-within_true : (clocks : Clocks) (known : Known) (place : Cut) (u : ℕ) → ((r : ℕ) → tick_of clocks r ≤ tick_at known place u r)
+pub within_true : (clocks : Clocks) (known : Known) (place : Cut) (u : ℕ) → ((r : ℕ) → tick_of clocks r ≤ tick_at known place u r)
     → is_within clocks known place u ≡ true
 within_true clocks known place u each =
     all_pass (λ r. nat_le (tick_of clocks r) (tick_at known place u r)) (listed_in clocks) (λ r. le-true (tick_of clocks r) (tick_at known place u r) (each r))

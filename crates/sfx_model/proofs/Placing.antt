@@ -52,7 +52,7 @@ not_behind : (y : MemberItem) (ys : List MemberItem) (i : ItemId) → state_of (
 not_behind y ys i none = sym (state_behind y ys i (not_head y ys i none)) ∙ none
 
 -- With one more item, the items are it and those before.
-with_has : (x : MemberItem) (xs : List MemberItem) (y : MemberItem) → Has y (with_item x xs) → (y ≡ x) ⊎ Has y xs
+pub with_has : (x : MemberItem) (xs : List MemberItem) (y : MemberItem) → Has y (with_item x xs) → (y ≡ x) ⊎ Has y xs
 with_has x [] y has = has
 with_has x (z ∷ zs) y has = by_test (with_has x zs y) (is_id_below z.id x.id) has
   where

@@ -4,98 +4,62 @@ use Rattle.sfx_ids.specs.declared.item_id.ItemId.{ItemId}
 use Rattle.sfx_model.specs.Sets.{Has}
 use Rattle.sfx_model.specs.Events.{same_item}
 use Rattle.sfx_model.specs.Members.{MemberItem, ItemState, AreRising, IsIdBelow, state_of}
-use Rattle.sfx_model.specs.States.{is_id_below, with_state}
-use Rattle.sfx_model.specs.Putting.{put_item, drop_item, with_state_of}
-use Rattle.sfx_model.proofs.Steps.{same_item_is, same_item_self}
-use Rattle.sfx_model.proofs.Rising.{before_differs, before_trans, state_below, state_here, state_behind}
-use Rattle.sfx_model.proofs.Placing.{below_is, above_is, before_all}
+use Rattle.sfx_model.specs.States.{with_state}
+use Rattle.sfx_model.specs.Putting.{put_for, put_item, drop_item, with_state_of}
+use Rattle.sfx_model.proofs.Steps.{same_item_is}
+use Rattle.sfx_model.proofs.Rising.{state_below, state_behind}
+use Rattle.sfx_model.proofs.Placing.{with_has, with_rising, with_found, with_others, state_rising, state_found, state_others}
 
 abbrev item_with : ItemId → ItemState → MemberItem
 item_with i state = record { id = i; state = state }
 
 -- An item that is put is found, and the others stay.
 pub put_found : (x : MemberItem) (xs : List MemberItem) → state_of (put_item x xs) x.id ≡ Some x.state
-put_found x [] = state_here x []
-put_found x (z ∷ zs) = by_order (put_found x zs) (is_id_below z.id x.id) refl
+put_found x xs = by_state (state_of xs x.id) refl
   where
-    by_same : (b : Bool) → state_of (if b then x ∷ zs else x ∷ z ∷ zs) x.id ≡ Some x.state
-    by_same true = state_here x zs
-    by_same false = state_here x (z ∷ zs)
-
-    by_order :
-        state_of (put_item x zs) x.id ≡ Some x.state
-        → (b : Bool) → is_id_below z.id x.id ≡ b
-        → state_of (if b then z ∷ put_item x zs else (if same_item z.id x.id then x ∷ zs else x ∷ z ∷ zs)) x.id ≡ Some x.state
-    by_order rest true e = state_behind z (put_item x zs) x.id (before_differs z.id x.id (below_is z.id x.id e)) ∙ rest
-    by_order rest false e = by_same (same_item z.id x.id)
+    by_state : (o : Option ItemState) → state_of xs x.id ≡ o → state_of (put_for o x xs) x.id ≡ Some x.state
+    by_state None new = with_found x xs new
+    by_state (Some old) was = state_found x.id x.state old xs was
 
 pub put_others : (x : MemberItem) (xs : List MemberItem) (j : ItemId) → x.id ≢ j → state_of (put_item x xs) j ≡ state_of xs j
-put_others x [] j other = state_behind x [] j other
-put_others x (z ∷ zs) j other = by_order (put_others x zs j other) (is_id_below z.id x.id)
+put_others x xs j other = by_state (state_of xs x.id)
   where
-    by_head :
-        state_of (put_item x zs) j ≡ state_of zs j
-        → (b : Bool)
-        → (if b then Some z.state else state_of (put_item x zs) j) ≡ (if b then Some z.state else state_of zs j)
-    by_head rest true = refl
-    by_head rest false = rest
+    by_state : (o : Option ItemState) → state_of (put_for o x xs) j ≡ state_of xs j
+    by_state None = with_others x xs j other
+    by_state (Some old) = state_others x.id x.state xs j other
 
-    by_same : (b : Bool) → same_item z.id x.id ≡ b → state_of (if b then x ∷ zs else x ∷ z ∷ zs) j ≡ state_of (z ∷ zs) j
-    by_same true e =
-        state_behind x zs j other
-        ∙ sym (state_behind z zs j (λ same. other (sym (same_item_is z.id x.id e) ∙ same)))
-    by_same false e = state_behind x (z ∷ zs) j other
-
-    by_order :
-        state_of (put_item x zs) j ≡ state_of zs j
-        → (b : Bool)
-        → state_of (if b then z ∷ put_item x zs else (if same_item z.id x.id then x ∷ zs else x ∷ z ∷ zs)) j ≡ state_of (z ∷ zs) j
-    by_order rest true = by_head rest (same_item z.id j)
-    by_order rest false = by_same (same_item z.id x.id) refl
-
-pub put_has : (x : MemberItem) (xs : List MemberItem) (y : MemberItem) → Has y (put_item x xs) → (y ≡ x) ⊎ Has y xs
-put_has x [] y has = has
-put_has x (z ∷ zs) y has = by_order (put_has x zs y) (is_id_below z.id x.id) has
+-- What an item's new state leaves.
+state_has : (x : MemberItem) (xs : List MemberItem) (y : MemberItem) → Has y (with_state x.id x.state xs) → (y ≡ x) ⊎ Has y xs
+state_has x [] y has = absurd has
+state_has x (z ∷ zs) y has = by_same (state_has x zs y) (same_item z.id x.id) refl has
   where
-    by_same : (b : Bool) → Has y (if b then x ∷ zs else x ∷ z ∷ zs) → (y ≡ x) ⊎ Has y (z ∷ zs)
-    by_same true h = elim h [ inl is ↦ inl is | inr there ↦ inr (inr there) ]
-    by_same false h = h
-
-    by_order :
-        (Has y (put_item x zs) → (y ≡ x) ⊎ Has y zs)
-        → (b : Bool)
-        → Has y (if b then z ∷ put_item x zs else (if same_item z.id x.id then x ∷ zs else x ∷ z ∷ zs))
+    by_same :
+        (Has y (with_state x.id x.state zs) → (y ≡ x) ⊎ Has y zs)
+        → (b : Bool) → same_item z.id x.id ≡ b
+        → Has y (if b then item_with z.id x.state ∷ zs else z ∷ with_state x.id x.state zs)
         → (y ≡ x) ⊎ Has y (z ∷ zs)
-    by_order rest true h = elim h [
+    by_same rest true e h = elim h [
+      | inl is ↦ inl (is ∙ ap (λ (i : ItemId). item_with i x.state) (same_item_is z.id x.id e))
+      | inr there ↦ inr (inr there)
+    ]
+    by_same rest false e h = elim h [
       | inl is ↦ inr (inl is)
       | inr there ↦ elim (rest there) [ inl new ↦ inl new | inr old ↦ inr (inr old) ]
     ]
-    by_order rest false h = by_same (same_item z.id x.id) h
+
+pub put_has : (x : MemberItem) (xs : List MemberItem) (y : MemberItem) → Has y (put_item x xs) → (y ≡ x) ⊎ Has y xs
+put_has x xs y has = by_state (state_of xs x.id) has
+  where
+    by_state : (o : Option ItemState) → Has y (put_for o x xs) → (y ≡ x) ⊎ Has y xs
+    by_state None h = with_has x xs y h
+    by_state (Some old) h = state_has x xs y h
 
 pub put_rising : (x : MemberItem) (xs : List MemberItem) → AreRising xs → AreRising (put_item x xs)
-put_rising x [] rising = (λ y has. absurd has, tt)
-put_rising x (z ∷ zs) rising = by_order (put_rising x zs rising.1) (is_id_below z.id x.id) refl
+put_rising x xs rising = by_state (state_of xs x.id) refl
   where
-    by_same : (b : Bool) → same_item z.id x.id ≡ b → is_id_below z.id x.id ≡ false → AreRising (if b then x ∷ zs else x ∷ z ∷ zs)
-    by_same true e not =
-        (λ y has. subst (λ (j : ItemId). IsIdBelow j y.id) (same_item_is z.id x.id e) (rising.0 y has), rising.1)
-    by_same false e not =
-        let apart : z.id ≢ x.id = λ same. let bad : true ≡ false =
-        sym (subst (λ (j : ItemId). same_item z.id j ≡ true) same (same_item_self z.id)) ∙ e in cc in
-        (before_all x.id z zs (above_is z.id x.id not apart) rising, rising)
-
-    by_order :
-        AreRising (put_item x zs)
-        → (b : Bool) → is_id_below z.id x.id ≡ b
-        → AreRising (if b then z ∷ put_item x zs else (if same_item z.id x.id then x ∷ zs else x ∷ z ∷ zs))
-    by_order rest true e = (
-      (λ y has. elim (put_has x zs y has) [
-        | inl is ↦ subst (λ (q : MemberItem). IsIdBelow z.id q.id) (sym is) (below_is z.id x.id e)
-        | inr there ↦ rising.0 y there
-      ]),
-      rest,
-    )
-    by_order rest false e = by_same (same_item z.id x.id) refl e
+    by_state : (o : Option ItemState) → state_of xs x.id ≡ o → AreRising (put_for o x xs)
+    by_state None new = with_rising x xs rising new
+    by_state (Some old) was = state_rising x.id x.state xs rising
 
 -- An item that is dropped is gone, and the others stay.
 pub drop_gone : (i : ItemId) (xs : List MemberItem) → AreRising xs → state_of (drop_item i xs) i ≡ None
@@ -161,32 +125,4 @@ rising_given i (Some state) xs rising = put_rising (item_with i state) xs rising
 pub put_there :
     (i : ItemId) (state old : ItemState) (xs : List MemberItem)
     → AreRising xs → state_of xs i ≡ Some old → put_item (item_with i state) xs ≡ with_state i state xs
-put_there i state old [] rising was = absurd (cc)
-put_there i state old (z ∷ zs) rising was = by_same (put_there i state old zs rising.1) (same_item z.id i) refl was
-  where
-    before : state_of zs i ≡ Some old → same_item z.id i ≡ false → is_id_below z.id i ≡ true
-    before there e = by_order (is_id_below z.id i) refl
-      where
-        by_order : (b : Bool) → is_id_below z.id i ≡ b → b ≡ true
-        by_order true f = refl
-        by_order false f =
-            let apart : z.id ≢ i = λ same. let bad : true ≡ false =
-            sym (subst (λ (j : ItemId). same_item z.id j ≡ true) same (same_item_self z.id)) ∙ e in cc in
-            let none : state_of zs i ≡ None =
-            state_below zs i (λ y has. before_trans i z.id y.id (above_is z.id i f apart) (rising.0 y has)) in
-            let bad : None ≡ Some old = sym none ∙ there in
-            absurd (cc)
-
-    same_head : (b : Bool) → same_item z.id i ≡ true → is_id_below z.id i ≡ b → b ≡ false
-    same_head false e f = refl
-    same_head true e f = absurd (before_differs z.id i (below_is z.id i f) (same_item_is z.id i e))
-
-    by_same :
-        (state_of zs i ≡ Some old → put_item (item_with i state) zs ≡ with_state i state zs)
-        → (b : Bool) → same_item z.id i ≡ b → (if b then Some z.state else state_of zs i) ≡ Some old
-        → put_item (item_with i state) (z ∷ zs) ≡ with_state i state (z ∷ zs)
-    by_same rest true e w =
-        let is : z.id ≡ i = same_item_is z.id i e in
-        rw (same_head (is_id_below z.id i) e refl, e)
-        (ap (λ (j : ItemId). item_with j state ∷ zs) (sym is))
-    by_same rest false e w = rw (before w e, e) (ap (λ (xs : List MemberItem). z ∷ xs) (rest w))
+put_there i state old xs rising was = rw was refl

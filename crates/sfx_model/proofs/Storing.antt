@@ -28,6 +28,20 @@ pub places_append : (xs ys : List Cut) → ArePlaces xs → ArePlaces ys → Are
 places_append [] ys first second = second
 places_append (x ∷ xs) ys first second = (first.0, places_append xs ys first.1 second)
 
+-- What was learned is knowledge with these ticks.
+pub learned_form :
+    (units : ℕ) (lo hi : Cut) (skipped : List (ItemId × ℕ)) (here there : Known)
+    → 1 ≤ units → IsKnowledge units here → IsKnowledge units there → IsKnowledge units (learned_known units lo hi skipped here there)
+learned_form units lo hi skipped here there some form_here form_there =
+    (learned_known_is units lo hi skipped here there some form_here form_there).0
+
+pub learned_has :
+    (units : ℕ) (lo hi : Cut) (skipped : List (ItemId × ℕ)) (here there : Known)
+    → IsKnowledge units here → IsKnowledge units there
+    → HasTicks units (learned_known units lo hi skipped here there) (learned lo hi skipped (tick_at here) (tick_at there))
+learned_has units lo hi skipped here there form_here form_there place u r at small =
+    (learned_known_is units lo hi skipped here there (omega (arith, small)) form_here form_there).1 place u r at small
+
 -- What is stored of it is knowledge, with these ticks but for the own one.
 pub stored_form :
     (units own : ℕ) (lo hi : Cut) (skipped : List (ItemId × ℕ)) (here there : Known)

@@ -1,6 +1,8 @@
 use Rattle.std.specs.Prelude.{ℕ, List}
 use Rattle.sfx_model.specs.declared.keep.Keep.{Keep}
+use Rattle.sfx_model.specs.declared.keep.Keep.TheVariants.{Skip as KeepNone}
 use Rattle.sfx_model.specs.declared.clash_rule.ClashRule.{ClashRule}
+use Rattle.sfx_model.specs.declared.clash_rule.ClashRule.TheVariants.{Skip as SkipClash}
 
 -- What a session does about conflicts: whose content of a unit is kept, what becomes of clashing names,
 -- and what is made of two values of a unit, the source's first, where they are merged.
@@ -8,3 +10,7 @@ pub record Rules : Type 0 where
   pub keep : Keep
   pub clash : ClashRule
   pub merge : ℕ → List ℕ → List ℕ → List ℕ
+
+-- The rules that leave each conflict alone. With them nothing is merged.
+abbrev pub skip_rules : Rules
+skip_rules = record { keep = KeepNone; clash = SkipClash; merge = λ u seen here. here }

@@ -203,14 +203,14 @@ created_owned units m values name items whole first good = record {
     made (x ∷ xs) (suc u) v e = made xs u v e
 
 -- The name of a created item.
-created_name :
+pub created_name :
     (m : Member) (values : List (List ℕ)) (name a : List ℕ)
     → slice_get values 0 ≡ Some name → live_name (Live (cells_at (next_version m) values)) ≡ Some a → name ≡ a
 created_name m [] name a first named = let bad : None ≡ Some name = first in absurd (cc)
 created_name m (v ∷ vs) name a first named = let both : Some name ≡ Some a = sym first ∙ named in cc
 
 -- With one more item that no other is in the way of, live names do not clash.
-with_apart :
+pub with_apart :
     (m : Member) (x : MemberItem) (name : List ℕ)
     → AreApart m.items → state_of m.items x.id ≡ None → first_clash name None m.items ≡ None
     → ((a : List ℕ) → live_name x.state ≡ Some a → name ≡ a) → AreApart (with_item x m.items)
@@ -310,7 +310,7 @@ set_row units (c ∷ cs) (suc u) new row named = record {
 }
 
 -- The name after an edit: the value written to unit 0, or the name before.
-set_name :
+pub set_name :
     (cells : List Cell) (unit : ℕ) (new : Cell) (a : List ℕ)
     → first_value (slice_set cells unit new) ≡ Some a
     → ((unit ≡ 0) × (new.value ≡ a)) ⊎ (first_value cells ≡ Some a)
@@ -346,7 +346,7 @@ edited_owned units m i unit value cells items owned named = record {
         ]
 
 -- The names of live items after another state of one of them, that no other item is in the way of.
-state_apart :
+pub state_apart :
     (m : Member) (i : ItemId) (old state : ItemState)
     → AreApart m.items → state_of m.items i ≡ Some old
     → ((a : List ℕ) → live_name state ≡ Some a → (first_clash a (Some i) m.items ≡ None) ⊎ (live_name old ≡ Some a))

@@ -74,6 +74,22 @@ impl<const U: usize> Replica<U> {
         })
     }
 
+    /// An equal replica of its own memory.
+    ///
+    /// # Errors
+    /// `Memory`.
+    pub fn copy(&self, alloc: Global) -> Result<Self, Memory>
+        ensures { IfOk result (λ copy. copy ≡ self.now) }
+    {
+        Ok(Replica {
+            id: self.id,
+            clock: self.clock,
+            knowledge: self.knowledge.copy(alloc)?,
+            forgotten: self.forgotten.copy(alloc)?,
+            items: copies(alloc, self.items.as_slice())?,
+        })
+    }
+
     /// The id under which the replica makes its versions.
     pub fn id(&self) -> ReplicaId
         ensures value { result ≡ self.now.id }

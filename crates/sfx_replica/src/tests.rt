@@ -306,3 +306,17 @@ fn compares_live_items(rt: HostRuntime) -> Result<(), Fail> {
     assert!(rt; pair(alloc, 10)?.same_live(&pair(alloc, 10)?));
     Ok(())
 }
+
+#[test]
+fn copies_a_replica(rt: HostRuntime) -> Result<(), Fail> {
+    let alloc = rt.alloc();
+    let mut replica = pair(alloc, 10)?;
+    let copy = replica.copy(alloc)?;
+    assert!(rt; copy.same_live(&replica));
+    assert_eq!(rt; copy.id(), replica.id());
+    assert_eq!(rt; copy.clock(), 2);
+    replica.create(two(alloc, "d", "")?)?;
+    assert_eq!(rt; copy.clock(), 2);
+    assert_eq!(rt; copy.items().len(), 2);
+    Ok(())
+}

@@ -12,3 +12,5 @@ mod Placing
 mod Rows
 mod Settings
 mod Wrongs
+pub mod Limits
+mod Uuids

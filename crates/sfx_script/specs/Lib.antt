@@ -6,3 +6,4 @@ pub mod Reading
 pub mod Line
 pub mod Printed
 pub mod Wrong
+pub mod Limits

@@ -1,6 +1,7 @@
 ghost use Rattle.std.specs.Prelude.{◌≡◌, ℕ, Some, Err, IfOk, IfErr, IsSome, option_and_then, option_map};
 ghost use Rattle.sfx_script.specs.Faults.{IsFaultOf};
 ghost use Rattle.sfx_script.specs.Grammar.{kind_of};
+ghost use Rattle.sfx_script.specs.Limits.{IsLimited};
 ghost use Rattle.sfx_script.specs.Reading.{Answers, line_of, reading_of};
 ghost use Rattle.sfx_script.specs.Wrong.{wrong_at};
 ghost use Rattle.sfx_script.specs.declared.line_fault.LineFault.TheVariants as faults;
@@ -13,7 +14,7 @@ use crate::word::text_of;
 use crate::words::Words;
 use std::alloc::Global;
 
-/// The line that these bytes are.
+/// The line that these bytes are. Its numbers are within their limits.
 ///
 /// # Errors
 /// `Syntax` exactly where they are none, with the least index at which they go wrong: a byte that is neither a
@@ -23,6 +24,7 @@ use std::alloc::Global;
 /// the line. `Memory` where an allocation was refused.
 pub fn parse_line(alloc: Global, line: &[u8]) -> Result<Line, LineFault>
     ensures ok { IfOk result (λ read. line_of line.now ≡ Some read) }
+    ensures limits { IfOk result IsLimited }
     ensures err { IfErr result (λ fault. IsFaultOf line.now fault) }
     ensures place { (at : ℕ) → result ≡ Err (faults.Syntax at) → wrong_at line.now ≡ Some at }
     ensures whole { IsSome (line_of line.now) → IfErr result (λ fault. fault ≡ faults.Memory) }

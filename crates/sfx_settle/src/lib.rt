@@ -13,7 +13,7 @@ pub use sfx_model::{ClashRule, Keep, Mark, UnitClass};
 pub use ticks::{ClockFull, fresh};
 pub use unit_classes::UnitClasses;
 pub use units::settle_units;
-pub use whole::settle_whole;
+pub use whole::{settle_whole, values_of};
 
 mod change;
 mod clash;

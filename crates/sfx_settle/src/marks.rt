@@ -64,7 +64,7 @@ impl<const U: usize> Marks<U> {
     }
 
     /// The marks of all units, in order.
-    pub(crate) fn marks(&self) -> &[Mark]
+    pub fn marks(&self) -> &[Mark]
         ensures value { result.now ≡ self.now }
         ensures whole { length self.now ≡ U }
     {

@@ -45,7 +45,10 @@ fn live_values<const U: usize>(
 }
 
 /// The values of the item where it is live.
-fn values_of<const U: usize>(
+///
+/// # Errors
+/// `Memory`.
+pub fn values_of<const U: usize>(
     alloc: Global,
     item: Option<&Item<U>>,
 ) -> Result<Option<Vec<Value>>, Memory>

@@ -1,9 +1,13 @@
+use Rattle.sfx_script.proofs.Limits.{answer_limited}
 use Rattle.sfx_script.proofs.Lines.{faults_are, lines_are_read}
 use Rattle.sfx_script.proofs.Wrongs.{answer_place}
 use Rattle.sfx_script.proofs.parsing.parse_line.Goals as goal
 
 pub returns-clause-err : goal.returns-clause-err
 returns-clause-err c = faults_are c.args.line.now c.read_line.result c.read_line.ensures
+
+pub returns-clause-limits : goal.returns-clause-limits
+returns-clause-limits c = answer_limited c.args.line.now c.read_line.result c.read_line.ensures
 
 pub returns-clause-whole : goal.returns-clause-whole
 returns-clause-whole c = lines_are_read c.args.line.now c.read_line.result c.read_line.ensures
