@@ -1,0 +1,164 @@
+-- What the code finds out of a change: its class, its draft, and whether a name clashes.
+use Rattle.std.proofs.Common.{◌≡◌, ◌≢◌, ◌⊎◌, ℕ, ◌<◌, Bool, true, false, if◌then◌else◌, nat_eq, length, List, [], ◌∷◌, Option, Some, None, inl, inr, refl, sym, ◌∙◌, ap, subst, arith}
+use Rattle.std.proofs.lemmas.Bool.{eq-eqb, ne_eqb, cases_eq}
+use Rattle.sfx_ids.specs.declared.cut.Cut.{Cut}
+use Rattle.sfx_ids.specs.declared.item_id.ItemId.{ItemId}
+use Rattle.sfx_ids.specs.ItemId.{creation_of}
+use Rattle.sfx_item.specs.Name.{IsName}
+use Rattle.sfx_segments.specs.Segments.{IsPlace}
+use Rattle.sfx_knowledge.specs.Forgotten.{Forgets}
+use Rattle.sfx_knowledge.specs.Forms.{with_own}
+use Rattle.sfx_knowledge.specs.Knowledge.{Known, IsKnowledge, tick_at}
+use Rattle.sfx_knowledge.proofs.Known.{one_knowledge}
+use Rattle.sfx_knowledge.proofs.Making.{IsKnowledge-with_own, ticks-with_own}
+use Rattle.sfx_model.specs.declared.clash_rule.ClashRule.TheVariants.{Skip as SkipClash}
+use Rattle.sfx_model.specs.declared.mode.Mode.TheVariants.{Normal}
+use Rattle.sfx_model.specs.Batch.{Batch}
+use Rattle.sfx_model.specs.Class.{AllKnown, TakeWhole, WholeConflict, class_of, is_forgotten_within, present_change, unknown_change}
+use Rattle.sfx_model.specs.Clashes.{drafted_name, plan_among, plan_named}
+use Rattle.sfx_model.specs.Consistent.{IsConsistent, IsItemState}
+use Rattle.sfx_model.specs.Draft.{Draft, all_left, draft_of}
+use Rattle.sfx_model.specs.Entry.{forgets_after, task_plan}
+use Rattle.sfx_model.specs.Knowing.{laid_known}
+use Rattle.sfx_model.specs.Members.{ItemState, Live, Dead, MemberItem, Member, state_of}
+use Rattle.sfx_model.specs.Readings.{clashing_with, is_unseen, knows_version}
+use Rattle.sfx_model.specs.Renamed.{is_free}
+use Rattle.sfx_model.specs.Rules.{skip_rules}
+use Rattle.sfx_model.proofs.Learned.{laid_other}
+use Rattle.sfx_provider.specs.Commit.{CommitData, committed}
+use Rattle.sfx_provider.proofs.Commits.{commits_consistent, stored}
+use Rattle.sfx_apply.specs.Turns.{WorkData, destination, draft_now, plan_at}
+use Rattle.sfx_apply.specs.Work.{FitsSides, Waits}
+use Rattle.sfx_apply.proofs.Drafts.{IsWholeHere}
+use Rattle.sfx_apply.proofs.Plans.{change_draft}
+
+-- What the destination knows is what is to be committed: the own clock is laid over it already.
+pub laid_again :
+    (units : ℕ) (c : CommitData) (m : Member)
+    → IsConsistent units m → Waits units c m → laid_known units (committed units c m) ≡ c.knowledge
+laid_again units c m good waits =
+    let bare : IsKnowledge units (with_own units m.id 0 c.knowledge) = IsKnowledge-with_own units m.id 0 c.knowledge waits.form (omega arith) good.id in
+    one_knowledge units (with_own units m.id c.clock (with_own units m.id 0 c.knowledge)) c.knowledge good.some
+    (IsKnowledge-with_own units m.id c.clock (with_own units m.id 0 c.knowledge) bare waits.fits.most good.id) waits.form
+    (λ place u r is inside.
+    ticks-with_own units m.id c.clock (with_own units m.id 0 c.knowledge) bare waits.fits.most good.id place u r is inside
+    ∙ by_own place u r is inside (cases_eq r m.id))
+  where
+    by_own :
+        (place : Cut) (u r : ℕ) → IsPlace place → u < units → (r ≡ m.id) ⊎ (r ≢ m.id)
+        → (if nat_eq r m.id then c.clock else tick_at (with_own units m.id 0 c.knowledge) place u r) ≡ tick_at c.knowledge place u r
+    by_own place u r is inside (inl same) =
+        rw (eq-eqb r m.id same) (sym (waits.fits.own place u is inside) ∙ ap (λ (x : ℕ). tick_at c.knowledge place u x) (sym same))
+    by_own place u r is inside (inr other) =
+        rw (ne_eqb r m.id other)
+        (ticks-with_own units m.id 0 c.knowledge waits.form (omega arith) good.id place u r is inside
+        ∙ laid_other m.id 0 (tick_at c.knowledge) place u r other)
+
+-- Unit by unit goes none but an item that is live on both sides.
+whole_fits : (seen : ItemState) (here : Option ItemState) (b : Bool) → FitsSides (if b then TakeWhole else WholeConflict) seen here
+whole_fits seen here true = tt
+whole_fits seen here false = tt
+
+whole_fits_not : (seen : ItemState) (here : Option ItemState) (b : Bool) → FitsSides (if b then WholeConflict else TakeWhole) seen here
+whole_fits_not seen here true = tt
+whole_fits_not seen here false = tt
+
+unknown_fits :
+    (units : ℕ) (known made_with : Known) (forgotten : Forgets) (change : MemberItem) (seen : ItemState) (here : Option ItemState)
+    → change.state ≡ seen → FitsSides (unknown_change units known made_with forgotten change here) seen here
+unknown_fits units known made_with forgotten change seen None is = by_test (knows_version known change.id 0 (creation_of change.id))
+  where
+    by_test :
+        (b : Bool)
+        → FitsSides (if b then (if is_forgotten_within units forgotten made_with change.id then TakeWhole else WholeConflict) else TakeWhole) seen None
+    by_test true = whole_fits seen None (is_forgotten_within units forgotten made_with change.id)
+    by_test false = tt
+unknown_fits units known made_with forgotten change seen (Some own) is =
+    subst (λ (s : ItemState). FitsSides (present_change units known made_with change.id s own) seen (Some own)) (sym is) (by_states seen own)
+  where
+    by_states : (s o : ItemState) → FitsSides (present_change units known made_with change.id s o) s (Some o)
+    by_states (Live cells) (Live cells') = tt
+    by_states (Live cells) (Dead v) = whole_fits_not (Live cells) (Some (Dead v)) (is_unseen units made_with (record { id = change.id; state = Dead v }))
+    by_states (Dead v) o = whole_fits_not (Dead v) (Some o) (is_unseen units made_with (record { id = change.id; state = o }))
+
+pub class_fits :
+    (units : ℕ) (known made_with : Known) (forgotten : Forgets) (change : MemberItem) (here : Option ItemState)
+    → FitsSides (class_of units known made_with forgotten change here) change.state here
+unfolding class_of
+class_fits units known made_with forgotten change here = by_test (is_unseen units known change)
+  where
+    by_test : (b : Bool) → FitsSides (if b then unknown_change units known made_with forgotten change here else AllKnown) change.state here
+    by_test true = unknown_fits units known made_with forgotten change change.state here refl
+    by_test false = tt
+
+-- The draft of its plan: that, or where a name clashes, all is left alone.
+abbrev pub settled : ℕ → List MemberItem → ItemId → Option (List ℕ) → Draft → Draft
+settled units items i None draft = draft
+settled units items i (Some name) draft = if is_free items i name then draft else all_left units
+
+plan_settled :
+    (units : ℕ) (items : List MemberItem) (i : ItemId) (name : Option (List ℕ)) (draft : Draft)
+    → (plan_named units SkipClash i items name draft).draft ≡ settled units items i name draft
+plan_settled units items i None draft = refl
+plan_settled units items i (Some name) draft = by_ids (clashing_with name (Some i) items)
+  where
+    by_ids : (ids : List ItemId) → (plan_among units SkipClash i items name ids draft).draft ≡ (if nat_eq (length ids) 0 then draft else all_left units)
+    by_ids [] = refl
+    by_ids (j ∷ js) = let some : length (j ∷ js) ≢ 0 = omega arith in rw (ne_eqb (length (j ∷ js)) 0 some) refl
+
+pub plan_draft :
+    (units : ℕ) (b : Batch) (change : MemberItem) (w : WorkData) (m : Member)
+    → IsConsistent units m → Waits units w.pending m → b.mode ≡ Normal
+    → (plan_at units b change (destination units w m)).draft
+    ≡ settled units (destination units w m).items change.id (drafted_name (draft_now units b w.pending change (state_of (destination units w m).items change.id)))
+    (draft_now units b w.pending change (state_of (destination units w m).items change.id))
+unfolding task_plan
+plan_draft units b change w m good waits normal =
+    let now : Member = destination units w m in
+    let here : Option ItemState = state_of (destination units w m).items change.id in
+    let known : laid_known units (destination units w m) ≡ w.pending.knowledge = laid_again units w.pending m good waits in
+    let forgotten : forgets_after b (destination units w m) ≡ w.pending.forgotten = rw normal refl in
+    let draft : draft_of units skip_rules (class_of units (laid_known units now) b.made_with (forgets_after b now) change here) (Some change.state) here
+    ≡ draft_now units b w.pending change here =
+    ap (λ (k : Known). draft_of units skip_rules (class_of units k b.made_with (forgets_after b now) change here) (Some change.state) here) known
+    ∙ ap (λ (f : Forgets). draft_of units skip_rules (class_of units w.pending.knowledge b.made_with f change here) (Some change.state) here) forgotten in
+    plan_settled units now.items change.id
+    (drafted_name (draft_of units skip_rules (class_of units (laid_known units now) b.made_with (forgets_after b now) change here) (Some change.state) here))
+    (draft_of units skip_rules (class_of units (laid_known units now) b.made_with (forgets_after b now) change here) (Some change.state) here)
+    ∙ ap (λ (d : Draft). settled units now.items change.id (drafted_name d) d) draft
+
+-- The drafted name is one.
+pub drafted_valid :
+    (units : ℕ) (b : Batch) (change : MemberItem) (w : WorkData) (m : Member) (name : List ℕ)
+    → IsConsistent units m → Waits units w.pending m → IsItemState units change.state
+    → drafted_name (draft_now units b w.pending change (state_of (destination units w m).items change.id)) ≡ Some name → IsName name
+drafted_valid units b change w m name good waits whole is =
+    (change_draft units w.pending.knowledge b.made_with w.pending.forgotten change (state_of (destination units w m).items change.id)
+    good.some whole (whole_here (state_of (destination units w m).items change.id) refl)).valid name is
+  where
+    whole_here : (o : Option ItemState) → state_of (destination units w m).items change.id ≡ o → IsWholeHere units o
+    whole_here None e = tt
+    whole_here (Some own) e = ((commits_consistent units w.pending m good (stored units w.pending m good waits.form) waits.fits).items change.id own e).whole
+
+-- The draft that was found, as it is settled.
+pub found_settled :
+    (units : ℕ) (b : Batch) (change : MemberItem) (w : WorkData) (m : Member) (here : Option ItemState) (draft : Draft) (name : Option (List ℕ))
+    → IsConsistent units m → Waits units w.pending m → b.mode ≡ Normal
+    → here ≡ state_of (destination units w m).items change.id → draft ≡ draft_now units b w.pending change here
+    → name ≡ drafted_name draft
+    → settled units (destination units w m).items change.id name draft ≡ (plan_at units b change (destination units w m)).draft
+found_settled units b change w m here draft name good waits normal there found named =
+    let is : draft ≡ draft_now units b w.pending change (state_of (destination units w m).items change.id) =
+    found ∙ ap (draft_now units b w.pending change) there in
+    ap (λ (o : Option (List ℕ)). settled units (destination units w m).items change.id o draft) named
+    ∙ ap (λ (d : Draft). settled units (destination units w m).items change.id (drafted_name d) d) is
+    ∙ sym (plan_draft units b change w m good waits normal)
+
+pub found_valid :
+    (units : ℕ) (b : Batch) (change : MemberItem) (w : WorkData) (m : Member) (here : Option ItemState) (draft : Draft)
+    → IsConsistent units m → Waits units w.pending m → IsItemState units change.state
+    → here ≡ state_of (destination units w m).items change.id → draft ≡ draft_now units b w.pending change here
+    → (name : List ℕ) → drafted_name draft ≡ Some name → IsName name
+found_valid units b change w m here draft good waits whole there found name named =
+    drafted_valid units b change w m name good waits whole
+    (ap drafted_name (sym (found ∙ ap (draft_now units b w.pending change) there)) ∙ named)

@@ -1,0 +1,17 @@
+pub mod EachUnit
+pub mod Drafts
+pub mod Plans
+pub mod Items
+pub mod Laying
+pub mod Clashing
+pub mod LeftOut
+pub mod Fitting
+pub mod Groups
+pub mod Standing
+pub mod Placing
+pub mod TakenCells
+pub mod Deciding
+pub mod LearnedForms
+pub mod Entering
+pub mod Greatest
+pub mod Looping

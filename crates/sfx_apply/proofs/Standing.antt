@@ -1,0 +1,524 @@
+-- How far a batch has come stands between the state at which it began and what comes of it.
+use Rattle.std.proofs.Common.{◌≡◌, ◌⊎◌, ℕ, ◌+◌, Bool, true, false, not, ◌&&◌, if◌then◌else◌, List, [], ◌∷◌, ◌++◌, append_assoc, length, map, Option, Some, None, Result, Ok, Err, inl, inr, refl, sym, ◌∙◌, ap, subst, arith, length-append}
+use Rattle.std.specs.Prelude.{IfSome, OnErr}
+use Rattle.std.proofs.lemmas.List.{append-nil}
+use Rattle.sfx_model.specs.declared.apply_end.ApplyEnd.{ApplyEnd}
+use Rattle.sfx_model.specs.declared.apply_end.ApplyEnd.TheVariants.{Whole}
+use Rattle.sfx_model.specs.declared.mode.Mode.TheVariants.{Normal}
+use Rattle.sfx_model.specs.Batch.{Batch, IsBatch, IsSent}
+use Rattle.sfx_model.specs.Clashes.{Plan}
+use Rattle.sfx_model.specs.Consistent.{IsConsistent}
+use Rattle.sfx_model.specs.Entry.{Change, Entry, after_task, entry_of}
+use Rattle.sfx_model.specs.Members.{ItemState, MemberItem, Member, state_of}
+use Rattle.sfx_model.specs.Moments.{Moment, Applied, Learned, Stopped, committed, divides, stops}
+use Rattle.sfx_model.specs.Rules.{skip_rules}
+use Rattle.sfx_model.specs.Session.{AppliedBatch, Outcome, Progress, after_range, applied_batch, finished, go, is_more, lefts, stopped, with_entry}
+use Rattle.sfx_model.specs.Sets.{Has}
+use Rattle.sfx_model.proofs.Sets.{has_left, has_right}
+use Rattle.sfx_provider.specs.Commit.{CommitData, commit_of, committed as laid}
+use Rattle.sfx_provider.specs.Head.{head_of}
+use Rattle.sfx_provider.proofs.Heads.{unchanged_same}
+use Rattle.sfx_provider.specs.Course.{CameInPart}
+use Rattle.sfx_provider.proofs.Commits.{commits_consistent, stored}
+use Rattle.sfx_apply.specs.Turns.{IsKeptIn, WorkData, destination, end_before, is_due, plan_at, state_if, states_if, turned, unless_ended, with_entry_of, with_range_of, work_if}
+use Rattle.sfx_apply.specs.Work.{KnowsNoMore, Waits}
+use Rattle.sfx_apply.proofs.Drafts.{IsWholeHere}
+use Rattle.sfx_apply.proofs.Fitting.{change_waits, made_waits, none_waits}
+use Rattle.sfx_apply.proofs.Groups.{Begins, among_stops, committed_append, committed_front, go_front, go_off, go_on, go_out}
+use Rattle.sfx_apply.proofs.Laying.{change_laid, range_laid}
+use Rattle.sfx_apply.proofs.Plans.{SkipsAll, change_plan}
+
+-- The progress of the model that the work is, at the provider's state.
+abbrev pub progress : ℕ → Member → WorkData → List Moment → Progress
+progress units m w moments =
+    record { member = destination units w m; entries = w.entries; moments = moments; budget = w.budget }
+
+-- What is left gives what comes of the batch, and the provider came by what is committed so far. The
+-- moments so far are nowhere in the program.
+pub record Stands (Came : List Member → Type 0) (units : ℕ) (b : Batch) (group : ℕ) (out : Outcome) (m : Member) (w : WorkData) (rest : List MemberItem) : Type 0 where
+  pub moments : List Moment
+  pub goes : go units b skip_rules (progress units m w moments) (map Change rest) ≡ out
+  pub came : Came (committed group moments)
+  pub waits : Waits units w.pending m
+  pub no_more : KnowsNoMore units m b
+  -- after whole groups of entries nothing waits
+  pub even : is_more (map Change rest) ≡ true → divides group (length w.entries) ≡ true → destination units w m ≡ m
+
+-- A batch begins.
+pub begun :
+    (Came : List Member → Type 0) (units : ℕ) (b : Batch) (group : ℕ) (m : Member) (budget : Option ℕ) (rest : List MemberItem)
+    → IsConsistent units m → KnowsNoMore units m b → Came []
+    → Stands Came units b group
+    (go units b skip_rules (record { member = m; entries = []; moments = []; budget = budget }) (map Change rest)) m
+    (record { pending = commit_of (head_of units m); entries = []; budget = budget }) rest
+begun Came units b group m budget rest good no_more came = record {
+  moments = [];
+  goes = ap (λ (n : Member). go units b skip_rules (record { member = n; entries = []; moments = []; budget = budget }) (map Change rest)) (unchanged_same units m good);
+  came = came;
+  waits = none_waits units m good;
+  no_more = no_more;
+  even = λ more divided. unchanged_same units m good;
+}
+
+-- What is known of the plan of a change at the destination.
+pub plan_skips :
+    (units : ℕ) (b : Batch) (change : MemberItem) (w : WorkData) (m : Member)
+    → IsConsistent units m → Waits units w.pending m → IsSent units b change.id change.state
+    → SkipsAll units change.id change.state (state_of (destination units w m).items change.id) (destination units w m).items
+    (plan_at units b change (destination units w m))
+plan_skips units b change w m good waits sent =
+    change_plan units b (destination units w m) change good.some sent.whole (whole (state_of (destination units w m).items change.id) refl)
+  where
+    whole : (o : Option ItemState) → state_of (destination units w m).items change.id ≡ o → IsWholeHere units o
+    whole None e = tt
+    whole (Some own) e = ((commits_consistent units w.pending m good (stored units w.pending m good waits.form) waits.fits).items change.id own e).whole
+
+-- The same destination, before a commit and after it.
+same_destination : (units : ℕ) (due : Bool) (w : WorkData) (m : Member) → destination units (work_if due w) (state_if units due w m) ≡ destination units w m
+same_destination units true w m = refl
+same_destination units false w m = refl
+
+same_entries : (due : Bool) (w : WorkData) → (work_if due w).entries ≡ w.entries
+same_entries true w = refl
+same_entries false w = refl
+
+same_budget : (due : Bool) (w : WorkData) → (work_if due w).budget ≡ w.budget
+same_budget true w = refl
+same_budget false w = refl
+
+abbrev progressed : Member → List Entry → List Moment → Option ℕ → Progress
+progressed m entries moments budget = record { member = m; entries = entries; moments = moments; budget = budget }
+
+-- What waits, after a commit where one is due.
+waits_if :
+    (units : ℕ) (due : Bool) (w : WorkData) (m : Member)
+    → IsConsistent units m → Waits units w.pending m → Waits units (work_if due w).pending (state_if units due w m)
+waits_if units true w m good waits = made_waits units w.pending m good waits
+waits_if units false w m good waits = waits
+
+no_more_if :
+    (units : ℕ) (b : Batch) (due : Bool) (w : WorkData) (m : Member)
+    → Waits units w.pending m → KnowsNoMore units m b → KnowsNoMore units (state_if units due w m) b
+no_more_if units b true w m waits no_more = record {
+  known = λ place u is inside.
+      let low = no_more.known place u is inside in
+      let rises = waits.fits.clock in
+      omega (arith, low, rises);
+}
+no_more_if units b false w m waits no_more = no_more
+
+-- What is committed at the moment after an entry.
+one_applied :
+    (group n k : ℕ) (more : Bool) (st s : Member)
+    → n ≡ k → st ≡ s
+    → committed group (Applied n more st ∷ []) ≡ (if more && divides group k then s ∷ [] else [])
+one_applied group n k more st s same_n same_st = by_test (more && divides group n) refl
+  where
+    by_test :
+        (b : Bool) → (more && divides group n) ≡ b
+        → committed group (Applied n more st ∷ []) ≡ (if more && divides group k then s ∷ [] else [])
+    by_test true e =
+        let f : (more && divides group k) ≡ true = ap (λ (x : ℕ). more && divides group x) (sym same_n) ∙ e in
+        rw (e, f, same_st) refl
+    by_test false e =
+        let f : (more && divides group k) ≡ false = ap (λ (x : ℕ). more && divides group x) (sym same_n) ∙ e in
+        rw (e, f) refl
+
+-- The entries are one more.
+one_longer : (xs : List Entry) (x : Entry) → length xs + 1 ≡ length (xs ++ x ∷ [])
+one_longer xs x = omega (arith, length-append xs (x ∷ []))
+
+-- One more entry, and the commit where it is due.
+pub entered :
+    (Came Next : List Member → Type 0) (units : ℕ) (b : Batch) (group : ℕ) (out : Outcome) (m : Member) (w : WorkData)
+    (change : MemberItem) (rest : List MemberItem)
+    → Stands Came units b group out m w (change ∷ rest)
+    → IsConsistent units m → IsBatch units b → b.mode ≡ Normal → IsSent units b change.id change.state
+    → end_before units b change w m ≡ None
+    → (next : WorkData) → next ≡ with_entry_of units b change (plan_at units b change (destination units w m)) (destination units w m) w
+    → (due : Bool) → due ≡ (is_more (map Change rest) && divides group (length next.entries))
+    → ((made : List Member) → Came made → Next (made ++ states_if units due next m))
+    → Stands Next units b group out (state_if units due next m) (work_if due next) rest
+entered Came Next units b group out m w change rest stands good batch normal sent none next is due due_is on = record {
+  moments = moments;
+  goes =
+      ap (λ (p : Progress). go units b skip_rules p (map Change rest)) progress_is
+      ∙ sym (go_on units b skip_rules (progress units m w stands.moments) (Change change) (map Change rest) none)
+      ∙ stands.goes;
+  came = subst Next (sym came_is) (on (committed group stands.moments) stands.came);
+  waits = waits_if units due next m good waits;
+  no_more = no_more_if units b due next m waits stands.no_more;
+  even = λ more divided.
+      let all : due ≡ true = due_is ∙ rw more (ap (λ (es : List Entry). divides group (length es)) (sym (same_entries due next)) ∙ divided) in
+      same_destination units due next m ∙ sym (ap (λ (d : Bool). state_if units d next m) all);
+}
+  where
+    now : Member
+    now = destination units w m
+
+    plan : Plan
+    plan = plan_at units b change now
+
+    moments : List Moment
+    moments = stands.moments ++ Applied (length w.entries + 1) (is_more (map Change rest)) (after_task units b (Change change) plan now) ∷ []
+
+    skips : SkipsAll units change.id change.state (state_of now.items change.id) now.items plan
+    skips = plan_skips units b change w m good stands.waits sent
+
+    laid : destination units next m ≡ after_task units b (Change change) plan now
+    laid =
+        ap (λ (x : WorkData). destination units x m) is
+        ∙ change_laid units b change plan w.pending m good stands.waits batch normal skips
+
+    waits : Waits units next.pending m
+    waits =
+        subst (λ (x : WorkData). Waits units x.pending m) (sym is)
+        (change_waits units b change plan w.pending m good stands.waits batch stands.no_more sent skips)
+
+    progress_is :
+        progress units (state_if units due next m) (work_if due next) moments
+        ≡ with_entry units b (Change change) (is_more (map Change rest)) plan (progress units m w stands.moments)
+    progress_is =
+        ap (λ (x : Member). progressed x (work_if due next).entries moments (work_if due next).budget) (same_destination units due next m ∙ laid)
+        ∙ ap (λ (es : List Entry). progressed (after_task units b (Change change) plan now) es moments (work_if due next).budget)
+        (same_entries due next ∙ ap (λ (x : WorkData). x.entries) is)
+        ∙ ap (progressed (after_task units b (Change change) plan now) (w.entries ++ entry_of units (Change change) plan now ∷ []) moments)
+        (same_budget due next ∙ ap (λ (x : WorkData). x.budget) is)
+
+    came_is : committed group moments ≡ committed group stands.moments ++ states_if units due next m
+    came_is =
+        committed_append group stands.moments (Applied (length w.entries + 1) (is_more (map Change rest)) (after_task units b (Change change) plan now) ∷ [])
+        ∙ ap (λ (xs : List Member). committed group stands.moments ++ xs)
+        (one_applied group (length w.entries + 1) (length next.entries) (is_more (map Change rest)) (after_task units b (Change change) plan now) (destination units next m)
+        (one_longer w.entries (entry_of units (Change change) plan now) ∙ ap (λ (x : WorkData). length x.entries) (sym is)) (sym laid)
+        ∙ ap (λ (d : Bool). if d then destination units next m ∷ [] else []) (sym due_is))
+
+-- The same by the words of a turn that did not end the batch.
+pub step_on :
+    (Came Next : List Member → Type 0) (units : ℕ) (b : Batch) (group : ℕ) (out : Outcome) (m n : Member) (w after : WorkData)
+    (change : MemberItem) (rest : List MemberItem) (end : Option ApplyEnd)
+    → Stands Came units b group out m w (change ∷ rest)
+    → IsConsistent units m → IsBatch units b → b.mode ≡ Normal → IsSent units b change.id change.state
+    → end ≡ None → end ≡ end_before units b change w m
+    → n ≡ state_if units (is_due group (is_more (map Change rest)) end (length (turned units b change w m).entries)) (turned units b change w m) m
+    → after ≡ work_if (is_due group (is_more (map Change rest)) end (length (turned units b change w m).entries)) (turned units b change w m)
+    → ((made : List Member) → Came made → Next (made ++ states_if units (is_due group (is_more (map Change rest)) end (length (turned units b change w m).entries)) (turned units b change w m) m))
+    → Stands Next units b group out n after rest
+step_on Came Next units b group out m n w after change rest end stands good batch normal sent none is n_is after_is on =
+    let next : WorkData = turned units b change w m in
+    let due : Bool = is_due group (is_more (map Change rest)) end (length (turned units b change w m).entries) in
+    let next_is : turned units b change w m ≡ with_entry_of units b change (plan_at units b change (destination units w m)) (destination units w m) w =
+    ap (λ (o : Option ApplyEnd). unless_ended o w (with_entry_of units b change (plan_at units b change (destination units w m)) (destination units w m) w)) (sym is ∙ none) in
+    let due_is : is_due group (is_more (map Change rest)) end (length (turned units b change w m).entries) ≡ (is_more (map Change rest) && divides group (length (turned units b change w m).entries)) =
+    ap (λ (o : Option ApplyEnd). is_due group (is_more (map Change rest)) o (length (turned units b change w m).entries)) none in
+    subst (λ (x : Member). Stands Next units b group out x after rest) (sym n_is)
+    (subst (λ (x : WorkData). Stands Next units b group out (state_if units due next m) x rest) (sym after_is)
+    (entered Came Next units b group out m w change rest stands good batch normal sent (sym is ∙ none) (turned units b change w m) next_is due due_is on))
+
+abbrev pub applied_of : List Entry → ApplyEnd → AppliedBatch
+applied_of entries end = record { entries = entries; end = end }
+
+-- What came of the batch.
+pub record Ends (Came : List Member → Type 0) (group : ℕ) (out : Outcome) (m : Member) (entries : List Entry) (end : ApplyEnd) : Type 0 where
+  pub state : m ≡ out.member
+  pub came : Came (committed group out.moments)
+  pub report : applied_of entries end ≡ applied_batch out
+
+-- What is committed where a batch ends before a change.
+one_stopped :
+    (group n : ℕ) (st : Member)
+    → committed group (Stopped n st ∷ []) ≡ (if not (divides group n) then st ∷ [] else [])
+one_stopped group n st = by_test (divides group n) refl
+  where
+    by_test : (b : Bool) → divides group n ≡ b → committed group (Stopped n st ∷ []) ≡ (if not (divides group n) then st ∷ [] else [])
+    by_test true e = rw e refl
+    by_test false e = rw e refl
+
+-- The batch ends before a change.
+stopping :
+    (Came Next : List Member → Type 0) (units : ℕ) (b : Batch) (group : ℕ) (out : Outcome) (m : Member) (w : WorkData)
+    (change : MemberItem) (rest : List MemberItem) (end : ApplyEnd)
+    → Stands Came units b group out m w (change ∷ rest)
+    → end_before units b change w m ≡ Some end
+    → ((made : List Member) → Came made → Next (made ++ states_if units (not (divides group (length w.entries))) w m))
+    → Ends Next group out (state_if units (not (divides group (length w.entries))) w m) w.entries end
+stopping Came Next units b group out m w change rest end stands is on = record {
+  state = by_test (divides group (length w.entries)) refl ∙ ap (λ (o : Outcome). o.member) out_is;
+  came = subst Next (sym came_is) (on (committed group stands.moments) stands.came);
+  report = ap applied_batch out_is;
+}
+  where
+    out_is : stopped end (progress units m w stands.moments) ≡ out
+    out_is = sym (go_off units b skip_rules (progress units m w stands.moments) (Change change) (map Change rest) end is) ∙ stands.goes
+
+    by_test : (d : Bool) → divides group (length w.entries) ≡ d → state_if units (not d) w m ≡ destination units w m
+    by_test true e = sym (stands.even refl e)
+    by_test false e = refl
+
+    came_is : committed group out.moments ≡ committed group stands.moments ++ states_if units (not (divides group (length w.entries))) w m
+    came_is =
+        ap (λ (o : Outcome). committed group o.moments) (sym out_is)
+        ∙ committed_append group stands.moments (Stopped (length w.entries) (destination units w m) ∷ [])
+        ∙ ap (λ (xs : List Member). committed group stands.moments ++ xs) (one_stopped group (length w.entries) (destination units w m))
+
+pub step_off :
+    (Came Next : List Member → Type 0) (units : ℕ) (b : Batch) (group : ℕ) (out : Outcome) (m n : Member) (w after : WorkData)
+    (change : MemberItem) (rest : List MemberItem) (end : Option ApplyEnd) (how : ApplyEnd)
+    → Stands Came units b group out m w (change ∷ rest)
+    → end ≡ Some how → end ≡ end_before units b change w m
+    → n ≡ state_if units (is_due group (is_more (map Change rest)) end (length (turned units b change w m).entries)) (turned units b change w m) m
+    → after ≡ work_if (is_due group (is_more (map Change rest)) end (length (turned units b change w m).entries)) (turned units b change w m)
+    → ((made : List Member) → Came made → Next (made ++ states_if units (is_due group (is_more (map Change rest)) end (length (turned units b change w m).entries)) (turned units b change w m) m))
+    → Ends Next group out n after.entries how
+step_off Came Next units b group out m n w after change rest end how stands some is n_is after_is on =
+    let next_is : turned units b change w m ≡ w =
+    ap (λ (o : Option ApplyEnd). unless_ended o w (with_entry_of units b change (plan_at units b change (destination units w m)) (destination units w m) w)) (sym is ∙ some) in
+    let due_is : is_due group (is_more (map Change rest)) end (length (turned units b change w m).entries) ≡ not (divides group (length w.entries)) =
+    ap (λ (o : Option ApplyEnd). is_due group (is_more (map Change rest)) o (length (turned units b change w m).entries)) some
+    ∙ ap (λ (x : WorkData). not (divides group (length x.entries))) next_is in
+    let ends : Ends Next group out (state_if units (not (divides group (length w.entries))) w m) w.entries how =
+    stopping Came Next units b group out m w change rest how stands (sym is ∙ some)
+    (λ made came. subst (λ (x : WorkData). Next (made ++ states_if units (not (divides group (length w.entries))) x m)) next_is
+    (subst (λ (d : Bool). Next (made ++ states_if units d (turned units b change w m) m)) due_is (on made came))) in
+    let state_is : n ≡ state_if units (not (divides group (length w.entries))) w m =
+    n_is ∙ ap (λ (d : Bool). state_if units d (turned units b change w m) m) due_is
+    ∙ ap (λ (x : WorkData). state_if units (not (divides group (length w.entries))) x m) next_is in
+    let entries_is : after.entries ≡ w.entries =
+    ap (λ (x : WorkData). x.entries) after_is
+    ∙ same_entries (is_due group (is_more (map Change rest)) end (length (turned units b change w m).entries)) (turned units b change w m)
+    ∙ ap (λ (x : WorkData). x.entries) next_is in
+    subst (λ (x : Member). Ends Next group out x after.entries how) (sym state_is)
+    (subst (λ (es : List Entry). Ends Next group out (state_if units (not (divides group (length w.entries))) w m) es how) (sym entries_is) ends)
+
+-- Nothing is left: the range is learned.
+pub finishing :
+    (Came Next : List Member → Type 0) (units : ℕ) (b : Batch) (group : ℕ) (out : Outcome) (m : Member) (w : WorkData)
+    → Stands Came units b group out m w []
+    → IsConsistent units m → IsBatch units b → b.mode ≡ Normal
+    → ((made : List Member) → Came made → Next (made ++ destination units (with_range_of units b w) m ∷ []))
+    → Ends Next group out (destination units (with_range_of units b w) m) w.entries Whole
+finishing Came Next units b group out m w stands good batch normal on = record {
+  state = laid ∙ ap (λ (o : Outcome). o.member) out_is;
+  came = subst Next (sym came_is) (on (committed group stands.moments) stands.came);
+  report = ap applied_batch out_is;
+}
+  where
+    out_is : finished units b (progress units m w stands.moments) ≡ out
+    out_is = sym (go_out units b skip_rules (progress units m w stands.moments)) ∙ stands.goes
+
+    laid : destination units (with_range_of units b w) m ≡ after_range units b (lefts w.entries) (destination units w m)
+    laid = range_laid units b (lefts w.entries) w.pending m good stands.waits batch normal
+
+    came_is : committed group out.moments ≡ committed group stands.moments ++ destination units (with_range_of units b w) m ∷ []
+    came_is =
+        ap (λ (o : Outcome). committed group o.moments) (sym out_is)
+        ∙ committed_append group stands.moments (Learned (after_range units b (lefts w.entries) (destination units w m)) ∷ [])
+        ∙ ap (λ (x : Member). committed group stands.moments ++ x ∷ []) (sym laid)
+
+-- The states of a step, behind those before it, are the first of all.
+pub record Part (before step all : List Member) : Type 0 where
+  pub rest : List Member
+  pub joins : before ++ (step ++ rest) ≡ all
+
+-- The same where the provider came by other lists.
+coming :
+    (Came Next : List Member → Type 0) (units : ℕ) (b : Batch) (group : ℕ) (out : Outcome) (m : Member) (w : WorkData) (rest : List MemberItem)
+    → (stands : Stands Came units b group out m w rest) → Next (committed group stands.moments)
+    → Stands Next units b group out m w rest
+coming Came Next units b group out m w rest stands came = record {
+  moments = stands.moments;
+  goes = stands.goes;
+  came = came;
+  waits = stands.waits;
+  no_more = stands.no_more;
+  even = stands.even;
+}
+
+front_of :
+    (before step all : List Member) (group : ℕ) (moments out : List Moment) (b : Begins moments out)
+    → committed group moments ≡ before ++ step → committed group out ≡ all → Part before step all
+front_of before step all group moments out b so_far whole = record {
+  rest = committed group b.rest;
+  joins = sym (append_assoc before step (committed group b.rest)) ∙ ap (λ (xs : List Member). xs ++ committed group b.rest) (sym so_far)
+      ∙ committed_front group moments out b ∙ whole;
+}
+
+nothing_behind : (before step all : List Member) → all ≡ before ++ step → Part before step all
+nothing_behind before step all is = record {
+  rest = [];
+  joins = ap (λ (xs : List Member). before ++ xs) (append-nil step) ∙ sym is;
+}
+
+-- Those of a turn.
+pub turn_part :
+    (Came : List Member → Type 0) (units : ℕ) (b : Batch) (group : ℕ) (out : Outcome) (m : Member) (w : WorkData)
+    (change : MemberItem) (rest : List MemberItem)
+    → (stands : Stands Came units b group out m w (change ∷ rest))
+    → IsConsistent units m → IsBatch units b → b.mode ≡ Normal → IsSent units b change.id change.state
+    → Part (committed group stands.moments)
+    (states_if units (is_due group (is_more (map Change rest)) (end_before units b change w m) (length (turned units b change w m).entries)) (turned units b change w m) m)
+    (committed group out.moments)
+turn_part Came units b group out m w change rest stands good batch normal sent = by_end (end_before units b change w m) refl
+  where
+    before : List Member
+    before = committed group stands.moments
+
+    step : List Member
+    step = states_if units (is_due group (is_more (map Change rest)) (end_before units b change w m) (length (turned units b change w m).entries)) (turned units b change w m) m
+
+    due : Bool
+    due = is_due group (is_more (map Change rest)) (end_before units b change w m) (length (turned units b change w m).entries)
+
+    later_state : Member
+    later_state = state_if units due (turned units b change w m) m
+
+    later_work : WorkData
+    later_work = work_if due (turned units b change w m)
+
+    alone : Stands (λ made. made ≡ committed group stands.moments) units b group out m w (change ∷ rest)
+    alone = coming Came (λ made. made ≡ committed group stands.moments) units b group out m w (change ∷ rest) stands refl
+
+    by_end : (o : Option ApplyEnd) → end_before units b change w m ≡ o → Part before step (committed group out.moments)
+    by_end None e =
+        let later = step_on (λ made. made ≡ before) (λ made. made ≡ before ++ step) units b group out m later_state w later_work change rest (end_before units b change w m)
+        alone good batch normal sent e refl refl refl (λ made is. ap (λ (xs : List Member). xs ++ step) is) in
+        let begins : Begins later.moments out.moments =
+        subst (λ (o : Outcome). Begins later.moments o.moments) later.goes (go_front units b skip_rules (progress units later_state later_work later.moments) (map Change rest)) in
+        front_of before step (committed group out.moments) group later.moments out.moments begins later.came refl
+    by_end (Some how) e =
+        let ends = step_off (λ made. made ≡ before) (λ made. made ≡ before ++ step) units b group out m later_state w later_work change rest (end_before units b change w m) how
+        alone e refl refl refl (λ made is. ap (λ (xs : List Member). xs ++ step) is) in
+        nothing_behind before step (committed group out.moments) ends.came
+
+-- That of the range.
+pub range_part :
+    (Came : List Member → Type 0) (units : ℕ) (b : Batch) (group : ℕ) (out : Outcome) (m : Member) (w : WorkData)
+    → (stands : Stands Came units b group out m w [])
+    → IsConsistent units m → IsBatch units b → b.mode ≡ Normal
+    → Part (committed group stands.moments) (destination units (with_range_of units b w) m ∷ []) (committed group out.moments)
+range_part Came units b group out m w stands good batch normal =
+    let before : List Member = committed group stands.moments in
+    let last : List Member = destination units (with_range_of units b w) m ∷ [] in
+    let ends = finishing (λ made. made ≡ before) (λ made. made ≡ before ++ last) units b group out m w
+    (coming Came (λ made. made ≡ before) units b group out m w [] stands refl) good batch normal
+    (λ made is. ap (λ (xs : List Member). xs ++ last) is) in
+    nothing_behind before last (committed group out.moments) ends.came
+
+-- What a fault in a step leaves of the batch.
+pub part_on :
+    {P : Type 0} (came : P → P → List Member → Type 0) (broke : P → P → Member → Type 0) (p q r : P) (before step all : List Member)
+    → ((a b c : P) (xs ys : List Member) → came a b xs → came b c ys → came a c (xs ++ ys))
+    → came p q before → CameInPart came broke q r step → Part before step all
+    → CameInPart came broke p r all
+part_on {P} came broke p q r before step all on path (inl (made, left, joins, came_by)) part =
+    inl (
+      before ++ made,
+      left ++ part.rest,
+      append_assoc before made (left ++ part.rest)
+          ∙ ap (λ (xs : List Member). before ++ xs) (sym (append_assoc made left part.rest) ∙ ap (λ (xs : List Member). xs ++ part.rest) joins)
+          ∙ part.joins,
+      on p q r before made path came_by,
+    )
+part_on {P} came broke p q r before step all on path (inr (between, made, next, left, joins, came_by, broken)) part =
+    inr (
+      between,
+      before ++ made,
+      next,
+      left ++ part.rest,
+      append_assoc before made (next ∷ (left ++ part.rest))
+          ∙ ap (λ (xs : List Member). before ++ xs) (sym (append_assoc made (next ∷ left) part.rest) ∙ ap (λ (xs : List Member). xs ++ part.rest) joins)
+          ∙ part.joins,
+      on p q between before made path came_by,
+      broken,
+    )
+
+-- A provider came by these states, and its state is one of them or the first.
+pub record Arrived {P : Type 0} (came : P → P → List Member → Type 0) (old new : P) (first now : Member) (made : List Member) : Type 0 where
+  pub path : came old new made
+  pub among : Has now (first ∷ made)
+
+pub arrived_on :
+    {P : Type 0} (came : P → P → List Member → Type 0) (p q r : P) (units : ℕ) (due : Bool) (w : WorkData) (first m n : Member) (made : List Member)
+    → ((a b c : P) (xs ys : List Member) → came a b xs → came b c ys → came a c (xs ++ ys))
+    → Arrived came p q first m made → came q r (states_if units due w m) → n ≡ state_if units due w m
+    → Arrived came p r first n (made ++ states_if units due w m)
+arrived_on came p q r units due w first m n made on arrived step is = record {
+  path = on p q r made (states_if units due w m) arrived.path step;
+  among = subst (λ (x : Member). Has x (first ∷ (made ++ states_if units due w m))) (sym is) (by_due due);
+}
+  where
+    by_due : (d : Bool) → Has (state_if units d w m) (first ∷ (made ++ states_if units d w m))
+    by_due true = inr (has_right (destination units w m) made (destination units w m ∷ []) (inl refl))
+    by_due false = elim arrived.among [ inl same ↦ inl same | inr has ↦ inr (has_left m made [] has) ]
+
+-- The kept state after a fault in a step.
+pub kept_on :
+    (kept : Option Member) (group : ℕ) (first now : Member) (before step : List Member) (moments : List Moment)
+    → Has now (first ∷ before) → IsKeptIn kept (now ∷ step) → Part before step (committed group moments)
+    → IsKeptIn kept (stops group first moments)
+kept_on None group first now before step moments among is part = tt
+kept_on (Some k) group first now before step moments among is part =
+    among_stops group k first moments (subst (λ (xs : List Member). Has k (first ∷ xs)) part.joins (by_place is))
+  where
+    by_place : Has k (now ∷ step) → Has k (first ∷ (before ++ (step ++ part.rest)))
+    by_place (inl same) =
+        subst (λ (x : Member). Has x (first ∷ (before ++ (step ++ part.rest)))) (sym same)
+        (elim among [ inl first_is ↦ inl first_is | inr there ↦ inr (has_left now before (step ++ part.rest) there) ])
+    by_place (inr there) = inr (has_right k before (step ++ part.rest) (has_left k step part.rest there))
+
+-- A fact holds whatever the answer is.
+pub on_err_anyhow : {T E Q : Type 0} (r : Result T E) → Q → OnErr r Q
+on_err_anyhow (Ok x) fact = tt
+on_err_anyhow (Err e) fact = fact
+
+-- What a commit that failed leaves.
+pub commit_broke :
+    {P : Type 0} (came : P → P → List Member → Type 0) (broke : P → P → Member → Type 0) (p q : P) (units : ℕ) (due : Bool) (w : WorkData) (c : CommitData) (m : Member)
+    → due ≡ true → c ≡ w.pending → came p p [] → broke p q (laid units c m) → CameInPart came broke p q (states_if units due w m)
+commit_broke came broke p q units due w c m is same none broken =
+    subst (λ (d : Bool). CameInPart came broke p q (states_if units d w m)) (sym is)
+    (inr (p, [], destination units w m, [], refl, none, subst (λ (x : CommitData). broke p q (laid units x m)) same broken))
+
+pub commit_kept :
+    (kept : Option Member) (units : ℕ) (due : Bool) (w : WorkData) (c : CommitData) (m : Member)
+    → due ≡ true → c ≡ w.pending → IfSome kept (λ k. (k ≡ m) ⊎ (k ≡ laid units c m)) → IsKeptIn kept (m ∷ states_if units due w m)
+commit_kept None units due w c m is same either = tt
+commit_kept (Some k) units due w c m is same either =
+    subst (λ (d : Bool). Has k (m ∷ states_if units d w m)) (sym is)
+    (elim either [ inl old ↦ inl old | inr new ↦ inr (inl (new ∙ ap (λ (x : CommitData). laid units x m) same)) ])
+
+-- Readings before a step change nothing of what a fault in it leaves.
+pub read_before :
+    {P : Type 0} (came : P → P → List Member → Type 0) (broke : P → P → Member → Type 0) (p q r : P) (states : List Member)
+    → ((a b c : P) (xs ys : List Member) → came a b xs → came b c ys → came a c (xs ++ ys))
+    → came p q [] → CameInPart came broke q r states → CameInPart came broke p r states
+read_before came broke p q r states on read fault =
+    part_on came broke p q r [] states states on read fault (record { rest = []; joins = append-nil states })
+
+-- A fault in the commit of a step, by the words of the step.
+pub step_fault :
+    {P : Type 0} (came : P → P → List Member → Type 0) (broke : P → P → Member → Type 0) (p q r : P) (units : ℕ) (due due' : Bool) (w w' : WorkData) (m m' : Member)
+    → ((a b c : P) (xs ys : List Member) → came a b xs → came b c ys → came a c (xs ++ ys))
+    → due ≡ due' → w ≡ w' → m ≡ m' → came p q [] → CameInPart came broke q r (states_if units due w m)
+    → CameInPart came broke p r (states_if units due' w' m')
+step_fault came broke p q r units due due' w w' m m' on same_due same_work same_state read fault =
+    read_before came broke p q r (states_if units due' w' m') on read
+    (subst (λ (x : Member). CameInPart came broke q r (states_if units due' w' x)) same_state
+    (subst (λ (x : WorkData). CameInPart came broke q r (states_if units due' x m)) same_work
+    (subst (λ (d : Bool). CameInPart came broke q r (states_if units d w m)) same_due fault)))
+
+pub step_kept :
+    (kept : Option Member) (units : ℕ) (due due' : Bool) (w w' : WorkData) (m m' : Member)
+    → due ≡ due' → w ≡ w' → m ≡ m' → IsKeptIn kept (m ∷ states_if units due w m) → IsKeptIn kept (m' ∷ states_if units due' w' m')
+step_kept kept units due due' w w' m m' same_due same_work same_state is =
+    subst (λ (x : Member). IsKeptIn kept (x ∷ states_if units due' w' x)) same_state
+    (subst (λ (x : WorkData). IsKeptIn kept (m ∷ states_if units due' x m)) same_work
+    (subst (λ (d : Bool). IsKeptIn kept (m ∷ states_if units d w m)) same_due is))
+
+-- Whether a commit is due, by the words of the step.
+pub same_due :
+    (group count : ℕ) (more due : Bool) (end end' : Option ApplyEnd) (w w' : WorkData)
+    → due ≡ is_due group more end count → count ≡ length w.entries → end ≡ end' → w ≡ w'
+    → due ≡ is_due group more end' (length w'.entries)
+same_due group count more due end end' w w' is counted ends works =
+    is ∙ ap (λ (o : Option ApplyEnd). is_due group more o count) ends ∙ ap (is_due group more end') (counted ∙ ap (λ (x : WorkData). length x.entries) works)

@@ -1,0 +1,3 @@
+pub mod Work
+pub mod Turns
+pub mod Fault

@@ -1,0 +1,115 @@
+-- The turns of a batch: each change in its turn, and the commits between them.
+use Rattle.std.specs.Prelude.{ℕ, Bool, not, ◌&&◌, if◌then◌else◌, List, [], ◌∷◌, ◌++◌, map, length, Option, Some, None, IfSome}
+use Rattle.std.specs.Borrow.{Bor}
+use Rattle.std.specs.List.{filter}
+use Rattle.sfx_item.specs.declared.item.Item.{Item}
+use Rattle.sfx_model.specs.declared.apply_end.ApplyEnd.{ApplyEnd}
+use Rattle.sfx_model.specs.Batch.{Batch}
+use Rattle.sfx_model.specs.Class.{class_of}
+use Rattle.sfx_model.specs.Clashes.{Plan}
+use Rattle.sfx_model.specs.Draft.{Draft, draft_of}
+use Rattle.sfx_model.specs.Entry.{Change, Entry, entry_of, task_plan}
+use Rattle.sfx_model.specs.Items.{item_view}
+use Rattle.sfx_model.specs.Members.{ItemState, MemberItem, Member, state_of}
+use Rattle.sfx_model.specs.Moments.{divides}
+use Rattle.sfx_model.specs.Rules.{skip_rules}
+use Rattle.sfx_model.specs.Session.{is_live_state, lefts, reduced, stop_before}
+use Rattle.sfx_model.specs.Sets.{Has}
+use Rattle.sfx_provider.specs.Commit.{CommitData, commit_of, committed}
+use Rattle.sfx_provider.specs.Head.{HeadData, head_of}
+use Rattle.sfx_apply.specs.Work.{cleared, with_marks, with_range}
+
+-- How far the applying of a batch has come: what waits to be committed, the entries, and how many more of
+-- them were asked for.
+pub record WorkData : Type 0 where
+  pub pending : CommitData
+  pub entries : List Entry
+  pub budget : Option ℕ
+
+-- The work before the first entry: nothing waits.
+abbrev pub work_begun : ℕ → Option ℕ → Member → WorkData
+work_begun units budget m = record { pending = commit_of (head_of units m); entries = []; budget = budget }
+
+-- The same by the head of the replica.
+abbrev pub work_at : HeadData → Option ℕ → WorkData
+work_at h budget = record {
+  pending = commit_of h;
+  entries = [];
+  budget = budget;
+}
+
+-- The changes of a batch in the order in which they are applied: the deletions, and then the live ones.
+abbrev pub in_turn : List MemberItem → List MemberItem
+in_turn changes = filter (λ x. not (is_live_state x.state)) changes ++ filter (λ x. is_live_state x.state) changes
+
+-- The items that are referred to.
+abbrev pub seen_views : {U : ℕ} → List (Bor (Item U)) → List MemberItem
+seen_views turns = map (λ x. item_view x.now) turns
+
+-- What is to be done with the change at the destination, where conflicts are skipped.
+abbrev pub plan_at : ℕ → Batch → MemberItem → Member → Plan
+plan_at units b change m = task_plan units skip_rules b m (Change change)
+
+-- The draft of a change at the destination, by what waits to be committed.
+abbrev pub draft_now : ℕ → Batch → CommitData → MemberItem → Option ItemState → Draft
+draft_now units b c change here =
+    draft_of units skip_rules (class_of units c.knowledge b.made_with c.forgotten change here) (Some change.state) here
+
+-- The work with the entry of one more change, by its plan at the destination.
+abbrev pub with_entry_of : ℕ → Batch → MemberItem → Plan → Member → WorkData → WorkData
+with_entry_of units b change p m w = record {
+  pending = with_marks units b change p.draft.marks (state_of m.items change.id) w.pending;
+  entries = w.entries ++ entry_of units (Change change) p m ∷ [];
+  budget = reduced w.budget 1;
+}
+
+-- The destination: the state of its provider, and over it what waits to be committed.
+abbrev pub destination : ℕ → WorkData → Member → Member
+destination units w m = committed units w.pending m
+
+-- How the batch ends before the change, if it does.
+abbrev pub end_before : ℕ → Batch → MemberItem → WorkData → Member → Option ApplyEnd
+end_before units b change w m = stop_before w.budget (plan_at units b change (destination units w m)) (destination units w m)
+
+-- The work as it was where the batch ends, and else the other.
+abbrev pub unless_ended : Option ApplyEnd → WorkData → WorkData → WorkData
+unless_ended (Some end) w next = w
+unless_ended None w next = next
+
+-- The work after the turn of a change.
+abbrev pub turned : ℕ → Batch → MemberItem → WorkData → Member → WorkData
+turned units b change w m =
+    unless_ended (end_before units b change w m) w
+    (with_entry_of units b change (plan_at units b change (destination units w m)) (destination units w m) w)
+
+-- The work with the batch's range, but for the units that the entries left alone.
+abbrev pub with_range_of : ℕ → Batch → WorkData → WorkData
+with_range_of units b w = record { pending = with_range units b (lefts w.entries) w.pending; entries = w.entries; budget = w.budget }
+
+-- Whether a commit is due after a turn: after each group of entries where a further change is left, and
+-- where the batch ends, if entries came since.
+abbrev pub is_due : ℕ → Bool → Option ApplyEnd → ℕ → Bool
+is_due group more None count = more && divides group count
+is_due group more (Some end) count = not (divides group count)
+
+-- Whether one is due after the turn of a change; `more` tells whether further ones are left.
+abbrev pub due_after : ℕ → ℕ → Batch → MemberItem → Bool → WorkData → Member → Bool
+due_after units group b change more w m = is_due group more (end_before units b change w m) (length (turned units b change w m).entries)
+
+-- The provider's state, the states that it came by and the work after the commit that is made where one
+-- is due.
+abbrev pub state_if : ℕ → Bool → WorkData → Member → Member
+state_if units due w m = if due then destination units w m else m
+
+abbrev pub states_if : ℕ → Bool → WorkData → Member → List Member
+states_if units due w m = if due then destination units w m ∷ [] else []
+
+abbrev pub emptied : WorkData → WorkData
+emptied w = record { pending = cleared w.pending; entries = w.entries; budget = w.budget }
+
+abbrev pub work_if : Bool → WorkData → WorkData
+work_if due w = if due then emptied w else w
+
+-- The kept state, where it is told, is one of these.
+abbrev pub IsKeptIn : Option Member → List Member → Type 0
+IsKeptIn kept states = IfSome kept (λ k. Has k states)

@@ -1,0 +1,105 @@
+-- How far the applying of a batch has come, and what each of its tasks adds to it.
+use Rattle.std.specs.Prelude.{◌≡◌, ℕ, zero, suc, ◌<◌, ◌≤◌, ◌||◌, if◌then◌else◌, List, [], ◌∷◌, Option, Some, None}
+use Rattle.std.specs.List.{list_any}
+use Rattle.sfx_ids.specs.declared.cut.Cut.{Cut}
+use Rattle.sfx_ids.specs.declared.cut.Cut.TheVariants.{At, After}
+use Rattle.sfx_ids.specs.declared.item_id.ItemId.{ItemId}
+use Rattle.sfx_segments.specs.Segments.{IsPlace}
+use Rattle.sfx_knowledge.specs.Knowledge.{IsKnowledge, tick_at}
+use Rattle.sfx_item.specs.declared.cell.Cell.{Cell}
+use Rattle.sfx_knowledge.specs.Skips.{is_skipped}
+use Rattle.sfx_model.specs.declared.mark.Mark.{Mark}
+use Rattle.sfx_model.specs.declared.mark.Mark.TheVariants.{Stays}
+use Rattle.sfx_model.specs.Batch.{Batch}
+use Rattle.sfx_model.specs.Class.{Class, AllKnown, TakeWhole, Units, WholeConflict}
+use Rattle.sfx_model.specs.Entry.{is_taken, left_from, no_cell}
+use Rattle.sfx_model.specs.Knowing.{learned_known}
+use Rattle.sfx_model.specs.Members.{ItemState, Live, Dead, MemberItem, Member}
+use Rattle.sfx_model.specs.Putting.{put_item}
+use Rattle.sfx_model.specs.States.{is_id_below}
+use Rattle.sfx_model.specs.Units.{each_unit, at_unit}
+use Rattle.sfx_provider.specs.Commit.{CommitData}
+use Rattle.sfx_provider.specs.Fits.{Fits}
+
+-- The cells of an item that is live on both sides, each that is taken as the source has it and the others
+-- as they are here.
+abbrev pub taken_cells : ℕ → List Mark → List Cell → List Cell → List Cell
+taken_cells units marks seen here =
+    each_unit units (λ u. if is_taken (at_unit marks u Stays) then at_unit seen u no_cell else at_unit here u no_cell)
+
+-- The state of an item of which units are taken: cell by cell where it is live on both sides, and else that
+-- of the source.
+abbrev pub taken_state : ℕ → List Mark → ItemState → Option ItemState → ItemState
+taken_state units marks (Live seen) (Some (Live here)) = Live (taken_cells units marks seen here)
+taken_state units marks (Live seen) (Some (Dead v)) = Live seen
+taken_state units marks (Live seen) None = Live seen
+taken_state units marks (Dead v) here = Dead v
+
+-- The items with that of the change as it becomes, where units of it are taken; `here` is its state before.
+abbrev pub put_taken : ℕ → List Mark → MemberItem → Option ItemState → List MemberItem → List MemberItem
+put_taken units marks change here items =
+    if list_any is_taken marks then put_item (record { id = change.id; state = taken_state units marks change.state here }) items
+    else items
+
+-- The commit with the marks of one more change, whose item is in this state at the destination.
+abbrev pub with_marks : ℕ → Batch → MemberItem → List Mark → Option ItemState → CommitData → CommitData
+with_marks units b change marks here c = record {
+  clock = c.clock;
+  knowledge = learned_known units (At change.id) (After change.id) (left_from change.id 0 marks) c.knowledge b.made_with;
+  forgotten = c.forgotten;
+  puts = put_taken units marks change here c.puts;
+  drops = c.drops;
+}
+
+-- The commit with the batch's range, but for these units.
+abbrev pub with_range : ℕ → Batch → List (ItemId × ℕ) → CommitData → CommitData
+with_range units b left c = record {
+  clock = c.clock;
+  knowledge = learned_known units b.from b.to left c.knowledge b.made_with;
+  forgotten = c.forgotten;
+  puts = c.puts;
+  drops = c.drops;
+}
+
+-- The commit once it is made: nothing is left to put or to drop.
+abbrev pub cleared : CommitData → CommitData
+cleared c = record { clock = c.clock; knowledge = c.knowledge; forgotten = c.forgotten; puts = []; drops = [] }
+
+-- The commit waits to be made: the replica's state takes it, and it drops nothing.
+pub record Waits (units : ℕ) (c : CommitData) (m : Member) : Type 0 where
+  pub fits : Fits units c m
+  pub form : IsKnowledge units c.knowledge
+  pub keeps : c.drops ≡ []
+
+-- The batch knows no versions of the replica but those that it made.
+pub record KnowsNoMore (units : ℕ) (m : Member) (b : Batch) : Type 0 where
+  pub known : (place : Cut) (u : ℕ) → IsPlace place → u < units → tick_at b.made_with place u m.id ≤ m.clock
+
+-- How many items stand before the place of one with this id: those at the front with a lower id.
+abbrev pub place_for : ItemId → List MemberItem → ℕ
+place_for i [] = zero
+place_for i (x ∷ xs) = if is_id_below x.id i then suc (place_for i xs) else zero
+
+-- The new list has these units of items, and those of the old one.
+abbrev pub AddsSkips : List (ItemId × ℕ) → List (ItemId × ℕ) → List (ItemId × ℕ) → Type 0
+AddsSkips old new more = (i : ItemId) (u : ℕ) → is_skipped new i u ≡ (is_skipped more i u || is_skipped old i u)
+
+-- Both lists have the same units of items.
+abbrev pub SameSkips : List (ItemId × ℕ) → List (ItemId × ℕ) → Type 0
+SameSkips a b = (i : ItemId) (u : ℕ) → is_skipped a i u ≡ is_skipped b i u
+
+-- Unit by unit goes none but an item that is live on both sides.
+abbrev pub FitsSides : Class → ItemState → Option ItemState → Type 0
+FitsSides AllKnown seen here = Unit {0}
+FitsSides TakeWhole seen here = Unit {0}
+FitsSides (Units classes) (Live seen) (Some (Live own)) = Unit {0}
+FitsSides (Units classes) (Live seen) (Some (Dead v)) = ⊥
+FitsSides (Units classes) (Live seen) None = ⊥
+FitsSides (Units classes) (Dead v) here = ⊥
+FitsSides WholeConflict seen here = Unit {0}
+
+-- The cells of an item that is there and live.
+abbrev pub live_cells : Option ItemState → Option (List Cell)
+live_cells None = None
+live_cells (Some (Live cells)) = Some cells
+live_cells (Some (Dead v)) = None

@@ -1,0 +1,128 @@
+ghost use Rattle.std.specs.Prelude.{◌≡◌, ◌≤◌, IfOk, IfSome, IsSome, OnOk, OnErr};
+ghost use Rattle.sfx_apply.specs.Fault.{HasCause, TellsAhead, Untouched};
+ghost use Rattle.sfx_apply.specs.Turns.{IsKeptIn, work_at, work_begun};
+ghost use Rattle.sfx_apply.specs.Work.{KnowsNoMore};
+ghost use Rattle.sfx_model.specs.Knowing.{ahead_of};
+ghost use Rattle.sfx_model.specs.Moments.{committed, stops};
+ghost use Rattle.sfx_model.specs.Rules.{skip_rules};
+ghost use Rattle.sfx_model.specs.Session.{applied, applied_batch};
+ghost use Rattle.sfx_model.specs.declared.mode.Mode.TheVariants.{Normal};
+ghost use Rattle.sfx_provider.specs.Course.{CameInPart};
+ghost use Rattle.sfx_provider.specs.Fault.{HasCause as HasProviderCause};
+
+use crate::ordering::in_turn;
+use crate::stepping::{change_step, range_step};
+use crate::work::Work;
+use crate::{Applied, ApplyFault, most_known};
+use sfx_batch::Batch;
+use sfx_model::ApplyEnd;
+use sfx_provider::{Head, Provider, ProviderFault};
+use std::alloc::Global;
+
+/// Applies a batch to the replica of a provider, where conflicts are skipped: what the source sent is brought,
+/// change by change, and then the destination knows of the batch's range what the source knows, but for the
+/// units that were left alone. The deletions come first, and then the live changes, each in order of their
+/// ids; each is judged by what the replica holds at that moment. What was done is told, entry by entry.
+///
+/// The replica is changed by commits: one after each `group` entries while changes are left, and one at the
+/// end of the batch. With a `budget` no more than so many entries are applied; where changes are left then,
+/// the end is `Cut`, and the range is not learned. `Full` is no end here, as no tick is drawn.
+///
+/// # Errors
+/// - `Ahead` exactly where the batch knows or has forgotten a greater tick of the replica than its clock;
+///   `tick` is the greatest one. Nothing has changed then.
+/// - `Provider`, only where the provider's count of faults rose, and `Memory`. The commits that were made
+///   stand, and the next one may have broken off.
+pub fn apply_batch<const U: usize, P: Provider<U>>(
+    alloc: Global,
+    provider: &mut P,
+    batch: &Batch<U>,
+    group: u64,
+    budget: Option<u64>,
+) -> Result<Applied<U>, ApplyFault>
+    requires told { IfSome (P.kept provider.old) (λ k. k ≡ P.state provider.old) }
+    requires normal { batch.now.mode ≡ Normal }
+    requires group { 1 ≤ group }
+    ensures report { IfOk result (λ a. a ≡ applied_batch (applied U batch.now skip_rules budget (P.state provider.old))) }
+    ensures state { OnOk result (P.state provider.new ≡ (applied U batch.now skip_rules budget (P.state provider.old)).member) }
+    ensures told { OnOk result (IfSome (P.kept provider.new) (λ k. k ≡ P.state provider.new)) }
+    ensures came { OnOk result (P.came provider.old provider.new (committed group (applied U batch.now skip_rules budget (P.state provider.old)).moments)) }
+    ensures fault { OnErr result (CameInPart P.came P.broke provider.old provider.new (committed group (applied U batch.now skip_rules budget (P.state provider.old)).moments)) }
+    ensures kept { OnErr result (IsKeptIn (P.kept provider.new) (stops group (P.state provider.old) (applied U batch.now skip_rules budget (P.state provider.old)).moments)) }
+    ensures ahead { TellsAhead (ahead_of (P.state provider.old) batch.now.made_with batch.now.forgotten) (P.state provider.old).clock result }
+    ensures untouched { IsSome (ahead_of (P.state provider.old) batch.now.made_with batch.now.forgotten) → Untouched P.state P.kept P.came provider.old provider.new }
+    ensures cause { HasCause (P.faults provider.old) (P.faults provider.new) result }
+{
+    batch.keeps();
+    provider.keeps();
+    let head = match provider.head(alloc) {
+        Ok(head) => head,
+        Err(ProviderFault::Failed) => return Err(ApplyFault::Provider),
+        Err(ProviderFault::Memory) => return Err(ApplyFault::Memory),
+    };
+    let tick = most_known(&batch.made_with, &batch.forgotten, &head.id);
+    let clock = head.clock;
+    if tick > clock {
+        return Err(ApplyFault::Ahead { tick, clock });
+    }
+    match apply_changes(alloc, provider, batch, group, begin(alloc, head, budget)) {
+        Ok(applied) => Ok(applied),
+        Err(ProviderFault::Failed) => Err(ApplyFault::Provider),
+        Err(ProviderFault::Memory) => Err(ApplyFault::Memory),
+    }
+}
+
+/// The work before the first entry: nothing waits.
+fn begin<const U: usize>(alloc: Global, head: Head<U>, budget: Option<u64>) -> Work<U>
+    ensures { result ≡ work_at head.entry budget }
+{
+    Work {
+        pending: head.into_commit(alloc),
+        entries: Vec::new(alloc),
+        budget,
+    }
+}
+
+/// Applies the changes of a batch, the deletions first and then the live ones, and learns the batch's range.
+fn apply_changes<const U: usize, P: Provider<U>>(
+    alloc: Global,
+    provider: &mut P,
+    batch: &Batch<U>,
+    group: u64,
+    mut work: Work<U>,
+) -> Result<Applied<U>, ProviderFault>
+    requires told { IfSome (P.kept provider.old) (λ k. k ≡ P.state provider.old) }
+    requires normal { batch.now.mode ≡ Normal }
+    requires no_more { KnowsNoMore U (P.state provider.old) batch.now }
+    requires group { 1 ≤ group }
+    requires begun { work ≡ work_begun U work.budget (P.state provider.old) }
+    ensures report { IfOk result (λ a. a ≡ applied_batch (applied U batch.now skip_rules work.entry.budget (P.state provider.old))) }
+    ensures state { OnOk result (P.state provider.new ≡ (applied U batch.now skip_rules work.entry.budget (P.state provider.old)).member) }
+    ensures told { OnOk result (IfSome (P.kept provider.new) (λ k. k ≡ P.state provider.new)) }
+    ensures came { OnOk result (P.came provider.old provider.new (committed group (applied U batch.now skip_rules work.entry.budget (P.state provider.old)).moments)) }
+    ensures fault { OnErr result (CameInPart P.came P.broke provider.old provider.new (committed group (applied U batch.now skip_rules work.entry.budget (P.state provider.old)).moments)) }
+    ensures kept { OnErr result (IsKeptIn (P.kept provider.new) (stops group (P.state provider.old) (applied U batch.now skip_rules work.entry.budget (P.state provider.old)).moments)) }
+    ensures cause { HasProviderCause (P.faults provider.old) (P.faults provider.new) result }
+{
+    batch.keeps();
+    provider.keeps();
+    let changes = in_turn(alloc, batch)?;
+    'changes: for (index, change) in changes.iter().enumerate() {
+        let more = index + 1 < changes.len();
+        if let Some(end) = change_step(alloc, provider, &mut work, batch, change, group, more)? {
+            return Ok(done(work, end));
+        }
+    }
+    range_step(alloc, provider, &mut work, batch)?;
+    Ok(done(work, ApplyEnd::Whole))
+}
+
+/// What is told of the work when it has ended so.
+fn done<const U: usize>(work: Work<U>, end: ApplyEnd) -> Applied<U>
+    ensures { result ≡ record { entries = work.entry.entries; end = end } }
+{
+    Applied {
+        entries: work.entries,
+        end,
+    }
+}

@@ -1,0 +1,35 @@
+//! What is read of the destination: of what waits to be committed, and else of the provider.
+ghost use Rattle.std.specs.Prelude.{◌≡◌, [], IfOk};
+ghost use Rattle.std.specs.Option.{option_map};
+ghost use Rattle.sfx_apply.specs.Turns.{destination};
+ghost use Rattle.sfx_apply.specs.Work.{Waits};
+ghost use Rattle.sfx_model.specs.Items.{state_view};
+ghost use Rattle.sfx_model.specs.Members.{state_of};
+ghost use Rattle.sfx_provider.specs.Fault.{HasCause};
+
+use crate::puts::put_of;
+use crate::work::Work;
+use sfx_ids::ItemId;
+use sfx_item::Item;
+use sfx_provider::{Provider, ProviderFault};
+use std::alloc::Global;
+
+/// The item with this id at the destination, or `None` where that holds none.
+pub(crate) fn item_now<const U: usize, P: Provider<U>>(
+    alloc: Global,
+    provider: &mut P,
+    work: &Work<U>,
+    id: &ItemId,
+) -> Result<Option<Item<U>>, ProviderFault>
+    requires waits { Waits U work.now.pending (P.state provider.old) }
+    ensures value { IfOk result (λ item. option_map (λ x. state_view x.state) item ≡ state_of (destination U work.now (P.state provider.old)).items id.now) }
+    ensures state { P.state provider.new ≡ P.state provider.old }
+    ensures kept { P.kept provider.new ≡ P.kept provider.old }
+    ensures came { P.came provider.old provider.new [] }
+    ensures cause { HasCause (P.faults provider.old) (P.faults provider.new) result }
+{
+    match put_of(work.puts(), id) {
+        Some(put) => Ok(Some(put.copy(alloc)?)),
+        None => provider.item(alloc, id),
+    }
+}

@@ -1,0 +1,89 @@
+//! The steps of a batch: the changes, and the range at its end, each with the commit that follows.
+ghost use Rattle.std.specs.Prelude.{◌≡◌, ◌≤◌, ◌∷◌, [], length, IfOk, IfSome, OnOk, OnErr};
+ghost use Rattle.sfx_apply.specs.Turns.{IsKeptIn, destination, due_after, end_before, is_due, state_if, states_if, turned, with_range_of, work_if};
+ghost use Rattle.sfx_apply.specs.Work.{KnowsNoMore, Waits};
+ghost use Rattle.sfx_model.specs.Batch.{IsSent};
+ghost use Rattle.sfx_model.specs.Consistent.{IsConsistent};
+ghost use Rattle.sfx_model.specs.Items.{item_view, state_view};
+ghost use Rattle.sfx_model.specs.declared.mode.Mode.TheVariants.{Normal};
+ghost use Rattle.sfx_provider.specs.Course.{CameInPart};
+ghost use Rattle.sfx_provider.specs.Fault.{HasCause};
+
+use crate::committing::commit_if;
+use crate::turn::turn;
+use crate::work::Work;
+use sfx_batch::Batch;
+use sfx_item::Item;
+use sfx_model::ApplyEnd;
+use sfx_provider::{Provider, ProviderFault};
+use std::alloc::Global;
+
+/// A change in its turn, and the commit where one is due; `more` tells whether further changes are left.
+pub(crate) fn change_step<const U: usize, P: Provider<U>>(
+    alloc: Global,
+    provider: &mut P,
+    work: &mut Work<U>,
+    batch: &Batch<U>,
+    change: &Item<U>,
+    group: u64,
+    more: bool,
+) -> Result<Option<ApplyEnd>, ProviderFault>
+    requires told { IfSome (P.kept provider.old) (λ k. k ≡ P.state provider.old) }
+    requires waits { Waits U work.old.pending (P.state provider.old) }
+    requires normal { batch.now.mode ≡ Normal }
+    requires no_more { KnowsNoMore U (P.state provider.old) batch.now }
+    requires sent { IsSent U batch.now change.now.id (state_view change.now.state) }
+    requires group { 1 ≤ group }
+    ensures value { IfOk result (λ end. end ≡ end_before U batch.now (item_view change.now) work.old (P.state provider.old)) }
+    ensures work { OnOk result (work.new ≡ work_if (due_after U group batch.now (item_view change.now) more work.old (P.state provider.old)) (turned U batch.now (item_view change.now) work.old (P.state provider.old))) }
+    ensures state { OnOk result (P.state provider.new ≡ state_if U (due_after U group batch.now (item_view change.now) more work.old (P.state provider.old)) (turned U batch.now (item_view change.now) work.old (P.state provider.old)) (P.state provider.old)) }
+    ensures told { OnOk result (IfSome (P.kept provider.new) (λ k. k ≡ P.state provider.new)) }
+    ensures came { OnOk result (P.came provider.old provider.new (states_if U (due_after U group batch.now (item_view change.now) more work.old (P.state provider.old)) (turned U batch.now (item_view change.now) work.old (P.state provider.old)) (P.state provider.old))) }
+    ensures fault { OnErr result (CameInPart P.came P.broke provider.old provider.new (states_if U (due_after U group batch.now (item_view change.now) more work.old (P.state provider.old)) (turned U batch.now (item_view change.now) work.old (P.state provider.old)) (P.state provider.old))) }
+    ensures kept { OnErr result (IsKeptIn (P.kept provider.new) (P.state provider.old ∷ states_if U (due_after U group batch.now (item_view change.now) more work.old (P.state provider.old)) (turned U batch.now (item_view change.now) work.old (P.state provider.old)) (P.state provider.old))) }
+    ensures consistent { IsConsistent U (P.state provider.old) }
+    ensures cause { HasCause (P.faults provider.old) (P.faults provider.new) result }
+{
+    let end = turn(alloc, provider, work, batch, change)?;
+    let due = is_due(group, more, end, work.count());
+    commit_if(provider, work, due)?;
+    Ok(end)
+}
+
+/// Whether a commit is due after so many entries of a batch that goes on, or ends so: after each group where
+/// a further change is left, and where the batch ends, if entries came since.
+fn is_due(group: u64, more: bool, end: Option<ApplyEnd>, count: usize) -> bool
+    requires { 1 ≤ group }
+    ensures { result ≡ is_due group more end count }
+{
+    let whole = (count as u64).is_multiple_of(group);
+    match end {
+        None => more && whole,
+        Some(_) => !whole,
+    }
+}
+
+/// The batch's range is learned, but for the units that were left alone, and all that waits is committed.
+pub(crate) fn range_step<const U: usize, P: Provider<U>>(
+    alloc: Global,
+    provider: &mut P,
+    work: &mut Work<U>,
+    batch: &Batch<U>,
+) -> Result<(), ProviderFault>
+    requires told { IfSome (P.kept provider.old) (λ k. k ≡ P.state provider.old) }
+    requires waits { Waits U work.old.pending (P.state provider.old) }
+    requires no_more { KnowsNoMore U (P.state provider.old) batch.now }
+    ensures entries { OnOk result (work.new.entries ≡ work.old.entries) }
+    ensures state { OnOk result (P.state provider.new ≡ destination U (with_range_of U batch.now work.old) (P.state provider.old)) }
+    ensures told { OnOk result (IfSome (P.kept provider.new) (λ k. k ≡ P.state provider.new)) }
+    ensures came { OnOk result (P.came provider.old provider.new (destination U (with_range_of U batch.now work.old) (P.state provider.old) ∷ [])) }
+    ensures fault { OnErr result (CameInPart P.came P.broke provider.old provider.new (destination U (with_range_of U batch.now work.old) (P.state provider.old) ∷ [])) }
+    ensures kept { OnErr result (IsKeptIn (P.kept provider.new) (P.state provider.old ∷ destination U (with_range_of U batch.now work.old) (P.state provider.old) ∷ [])) }
+    ensures consistent { IsConsistent U (P.state provider.old) }
+    ensures cause { HasCause (P.faults provider.old) (P.faults provider.new) result }
+{
+    batch.keeps();
+    provider.keeps();
+    work.learn(alloc, batch)?;
+    commit_if(provider, work, true)
+}

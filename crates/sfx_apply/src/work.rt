@@ -1,0 +1,162 @@
+ghost use Rattle.std.specs.Prelude.{◌≡◌, ◌≤◌, ◌∷◌, ◌++◌, [], None, length, IfOk, OnOk};
+ghost use Rattle.std.specs.Option.{option_map};
+ghost use Rattle.sfx_apply.specs.Turns.{with_range_of};
+ghost use Rattle.sfx_apply.specs.Work.{with_marks};
+ghost use Rattle.sfx_ids.specs.declared.cut.Cut.TheVariants.{After, At};
+ghost use Rattle.sfx_knowledge.specs.Knowledge.{IsKnowledge};
+ghost use Rattle.sfx_model.specs.Entry.{kind_of_marks, left_from};
+ghost use Rattle.sfx_model.specs.Items.{item_view, items_view, state_view};
+ghost use Rattle.sfx_model.specs.Knowing.{learned_known};
+ghost use Rattle.sfx_model.specs.Session.{is_spent, lefts, reduced};
+
+use crate::Entry;
+use crate::learning::{learned_item, learned_range};
+use crate::marking::{kind_of, takes};
+use crate::puts::put;
+use crate::taking::taken_state;
+use sfx_batch::Batch;
+use sfx_ids::{ItemId, Memory};
+use sfx_item::Item;
+use sfx_knowledge::Knowledge;
+use sfx_provider::Commit;
+use sfx_settle::Marks;
+use std::alloc::Global;
+use std::marker::Model;
+
+/// How far the applying of a batch has come: what waits to be committed, the entries, and how many more of
+/// them were asked for.
+#[derive(Drop)]
+pub(crate) struct Work<const U: usize> {
+    pub(crate) pending: Commit<U>,
+    pub(crate) entries: Vec<Entry<U>>,
+    pub(crate) budget: Option<u64>,
+}
+
+impl<const U: usize> Model for Work<U> {
+    ghost use Rattle.sfx_apply.specs.Turns.{WorkData};
+
+    ghost Value = { WorkData };
+
+    ghost view = { λ w. record { pending = w.pending; entries = w.entries.items; budget = w.budget } };
+}
+
+impl<const U: usize> Work<U> {
+    /// The items that wait to be put.
+    pub(crate) fn puts(&self) -> &[Item<U>]
+        ensures { items_view result.now ≡ self.now.pending.puts }
+    {
+        self.pending.puts.as_slice()
+    }
+
+    /// How many entries there are.
+    pub(crate) fn count(&self) -> usize
+        ensures { result ≡ length self.now.entries }
+    {
+        self.entries.len()
+    }
+
+    /// Whether no more entries were asked for.
+    pub(crate) fn is_spent(&self) -> bool
+        ensures { result ≡ is_spent self.now.budget }
+    {
+        self.budget == Some(0)
+    }
+
+    /// Adds the entry of a change with these marks, of an item that the destination has so, or not at all:
+    /// what is taken waits to be put, and of the item is learned what the source knows, but for the units
+    /// that are left alone.
+    pub(crate) fn add(
+        &mut self,
+        alloc: Global,
+        batch: &Batch<U>,
+        change: &Item<U>,
+        local: Option<&Item<U>>,
+        marks: Marks<U>,
+    ) -> Result<(), Memory>
+        requires some { 1 ≤ U }
+        requires form { IsKnowledge U self.old.pending.knowledge }
+        ensures pending { OnOk result (self.new.pending ≡ with_marks U batch.now (item_view change.now) marks.entry (option_map (λ x. state_view x.now.state) local.entry) self.old.pending) }
+        ensures entries { OnOk result (self.new.entries ≡ self.old.entries ++ record { item = change.now.id; kind = kind_of_marks marks.entry; marks = marks.entry; tick = None; name = None; others = [] } ∷ []) }
+        ensures budget { OnOk result (self.new.budget ≡ reduced self.old.budget 1) }
+    {
+        let knowledge = self.learned(alloc, batch, &change.id, &marks)?;
+        if takes(&marks) {
+            let state = taken_state(alloc, &marks, change, local)?;
+            put(
+                &mut self.pending.puts,
+                Item {
+                    id: change.id,
+                    state,
+                },
+            )?;
+        }
+        self.pending.knowledge = knowledge;
+        self.budget = one_less(self.budget);
+        self.entries.push(Entry {
+            item: change.id,
+            kind: kind_of(&marks),
+            marks,
+            tick: None,
+            name: None,
+            others: Vec::new(alloc),
+        })?;
+        Ok(())
+    }
+
+    /// Learns what the source knows in the batch's range, but for the units that the entries left alone.
+    pub(crate) fn learn(&mut self, alloc: Global, batch: &Batch<U>) -> Result<(), Memory>
+        requires some { 1 ≤ U }
+        requires form { IsKnowledge U self.old.pending.knowledge }
+        ensures { OnOk result (self.new ≡ with_range_of U batch.now self.old) }
+    {
+        let knowledge = self.range_known(alloc, batch)?;
+        self.pending.knowledge = knowledge;
+        Ok(())
+    }
+
+    /// What is known with what the source knows in the batch's range, but for the units that the entries left
+    /// alone.
+    fn range_known(&self, alloc: Global, batch: &Batch<U>) -> Result<Knowledge<U>, Memory>
+        requires some { 1 ≤ U }
+        requires form { IsKnowledge U self.now.pending.knowledge }
+        ensures value { IfOk result (λ known. known ≡ learned_known U batch.now.from batch.now.to (lefts self.now.entries) self.now.pending.knowledge batch.now.made_with) }
+    {
+        batch.keeps();
+        let pending = &self.pending;
+        learned_range(
+            alloc,
+            &pending.knowledge,
+            &batch.made_with,
+            &batch.from,
+            &batch.to,
+            self.entries.as_slice(),
+        )
+    }
+
+    /// What is known with what the source knows of an item, but for the units that are left alone.
+    fn learned(
+        &self,
+        alloc: Global,
+        batch: &Batch<U>,
+        id: &ItemId,
+        marks: &Marks<U>,
+    ) -> Result<Knowledge<U>, Memory>
+        requires some { 1 ≤ U }
+        requires form { IsKnowledge U self.now.pending.knowledge }
+        ensures value { IfOk result (λ known. known ≡ learned_known U (At id.now) (After id.now) (left_from id.now 0 marks.now) self.now.pending.knowledge batch.now.made_with) }
+    {
+        batch.keeps();
+        let pending = &self.pending;
+        learned_item(alloc, &pending.knowledge, &batch.made_with, id, marks)
+    }
+}
+
+/// The budget after one more entry.
+fn one_less(budget: Option<u64>) -> Option<u64>
+    ensures { result ≡ reduced budget 1 }
+{
+    match budget {
+        Some(more) => Some(more.saturating_sub(1)),
+        None => None,
+    }
+}

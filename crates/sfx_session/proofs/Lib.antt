@@ -1,0 +1,5 @@
+pub mod Answered
+pub mod Travels
+pub mod Skipping
+pub mod Deciding
+pub mod Refusing

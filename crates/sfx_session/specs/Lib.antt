@@ -1,0 +1,4 @@
+pub mod Fault
+pub mod Refusals
+pub mod Report
+pub mod Travel

@@ -1,0 +1,43 @@
+-- What the code holds of a session under way, and what one more batch makes of it.
+use Rattle.std.specs.Prelude.{ℕ, List, [], ◌∷◌, ◌++◌, length, Option}
+use Rattle.sfx_ids.specs.declared.cut.Cut.{Cut}
+use Rattle.sfx_ids.specs.declared.cut.Cut.TheVariants.{Start}
+use Rattle.sfx_model.specs.declared.mode.Mode.{Mode}
+use Rattle.sfx_model.specs.declared.session_end.SessionEnd.{SessionEnd}
+use Rattle.sfx_model.specs.Batch.{Batch, batch_from}
+use Rattle.sfx_model.specs.Knowing.{laid_known}
+use Rattle.sfx_model.specs.Members.{Member}
+use Rattle.sfx_model.specs.Rules.{skip_rules}
+use Rattle.sfx_model.specs.Session.{AppliedBatch, Outcome, Step, applied, ending, reduced}
+
+-- A session under way: the place where its next batch begins, the batches so far, and how many more
+-- entries were asked for.
+pub record TravelData : Type 0 where
+  pub from : Cut
+  pub steps : List Step
+  pub budget : Option ℕ
+
+-- The session as it begins.
+abbrev pub departure : Option ℕ → TravelData
+departure cut = record { from = Start; steps = []; budget = cut }
+
+-- The batch that is due to the destination as it is now.
+abbrev pub due_batch : ℕ → Member → Mode → ℕ → Member → TravelData → Batch
+due_batch units source mode size now t = batch_from units source mode size (laid_known units now) t.from
+
+-- What comes of it.
+abbrev pub due_outcome : ℕ → Member → Mode → ℕ → Member → TravelData → Outcome
+due_outcome units source mode size now t =
+    applied units (due_batch units source mode size now t) skip_rules t.budget now
+
+-- The session with one more batch, which was applied so.
+abbrev pub travelled : Batch → AppliedBatch → TravelData → TravelData
+travelled b a t = record {
+  from = b.to;
+  steps = t.steps ++ record { batch = b; applied = a } ∷ [];
+  budget = reduced t.budget (length a.entries);
+}
+
+-- Whether the session ends with the batch.
+abbrev pub arrival : Batch → AppliedBatch → TravelData → Option SessionEnd
+arrival b a t = ending b.to a.end (reduced t.budget (length a.entries))

@@ -1,0 +1,16 @@
+//! Sessions: what a source knows and a destination does not is sent in batches and applied.
+#![tactic(auto)]
+
+pub use report::Report;
+pub use session_fault::SessionFault;
+pub use sessions::session;
+pub use step::Step;
+
+mod refusal;
+mod report;
+mod session_fault;
+mod sessions;
+mod step;
+#[cfg(test)]
+mod tests;
+mod travel;
