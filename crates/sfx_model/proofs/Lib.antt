@@ -61,3 +61,6 @@ pub mod Sessioning
 pub mod Stating
 pub mod Sourced
 pub mod Concluding
+pub mod Orderly
+pub mod CutRun
+pub mod Most

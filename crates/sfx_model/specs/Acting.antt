@@ -1,6 +1,6 @@
 -- What is asked of a member that takes part in sessions, and what is said of events that it does one after
 -- another.
-use Rattle.std.specs.Prelude.{◌≡◌, ◌⊎◌, ℕ, ◌<◌, ◌≤◌, ◌^◌, true, false, List, IsSomeAnd}
+use Rattle.std.specs.Prelude.{◌≡◌, ◌≢◌, ◌⊎◌, ℕ, ◌<◌, ◌≤◌, ◌^◌, true, false, List, IsSomeAnd}
 use Rattle.sfx_ids.specs.declared.cut.Cut.{Cut}
 use Rattle.sfx_ids.specs.declared.cut.Cut.TheVariants.{Start, At, End}
 use Rattle.sfx_ids.specs.declared.item_id.ItemId.{ItemId}
@@ -123,3 +123,22 @@ pub record DeedsContinue (w : World) (deeds : List Deed) (c : Community) : Type 
 -- The member is one of the state's.
 abbrev pub IsMemberOf : Community → Member → Type 0
 IsMemberOf c m = (x : NamedMember) × Has x c.members × (x.member ≡ m)
+
+-- Source and destination take part in the well-formed world, whose items have this many units: they are two
+-- of its replicas, and each represents its site.
+pub record TakePart (w : World) (units : ℕ) (source m : Member) : Type 0 where
+  pub units_are : w.units ≡ units
+  pub well_formed : WellFormed w
+  pub apart : source.id ≢ m.id
+  pub source_stands : RepresentsReplica w source.id (shown source)
+  pub stands : RepresentsReplica w m.id (shown m)
+
+-- The batch brings to the destination what is due from the source, both of which take part in the world. In
+-- mode Normal the destination knows the deletions that the batch has forgotten.
+pub record Brings (w : World) (units : ℕ) (source m : Member) (b : Batch) : Type 0 where
+  pub part : TakePart w units source m
+  pub orderly : IsOrderly units source
+  pub size : ℕ
+  pub some : 1 ≤ size
+  pub due : IsDue units source m size b
+  pub knows : KnowsForgotten units b m

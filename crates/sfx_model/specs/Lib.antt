@@ -25,5 +25,6 @@ pub mod Entry
 pub mod Moments
 pub mod Session
 pub mod SessionExamples
+pub mod CutRun
 pub mod Deeds
 pub mod Acting

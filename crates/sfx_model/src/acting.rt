@@ -1,19 +1,23 @@
-ghost use Rattle.std.specs.Prelude.{◌≡◌, ◌≢◌, ℕ, ◌≤◌, List, IsSomeAnd, Option, None, Some};
+ghost use Rattle.std.specs.Prelude.{◌≡◌, ◌≢◌, ℕ, ◌≤◌, ◌++◌, List, [], ◌∷◌, map, codes, true, false, IsSomeAnd, Option, None, Some};
 ghost use Rattle.sfx_ids.specs.declared.item_id.ItemId.{ItemId};
 ghost use Rattle.sfx_knowledge.specs.Knowledge.{tick_at};
 ghost use Rattle.sfx_model.specs.Acting.{DeedsActIn, DeedsContinue, EntryActs, HasTicksLeft, IsDue, IsMemberOf, IsOrderly, KnowsForgotten, LearnsItem, RangeActs, RangeFits, Supplies};
 ghost use Rattle.sfx_model.specs.Batch.{Batch};
+ghost use Rattle.sfx_model.specs.CutRun.{before_cut, contained, created_records, cut_community, cut_deeds, cut_member, cut_world, got, known_names, present_items, world_before};
 ghost use Rattle.sfx_model.specs.Deeds.{batch_deeds, events_with, session_deeds, task_deeds};
 ghost use Rattle.sfx_model.specs.Entry.{Change, Task, Unlisted, task_item, task_plan};
-ghost use Rattle.sfx_model.specs.Events.{after_all, site_of};
+ghost use Rattle.sfx_model.specs.Events.{AllLegal, AreLegalDeeds, after_all, site_of};
+ghost use Rattle.sfx_model.specs.Headline.{FactsHold, HaveEqualKnowledge};
+ghost use Rattle.sfx_model.specs.Knowing.{ahead_of, laid_known};
 ghost use Rattle.sfx_model.specs.Members.{Community, ItemState, Member, MemberItem, RepresentsWorld, shown, state_of};
 ghost use Rattle.sfx_model.specs.Replica.{RepresentsReplica};
 ghost use Rattle.sfx_model.specs.Results.{BacksRange};
 ghost use Rattle.sfx_model.specs.Rules.{Rules};
 ghost use Rattle.sfx_model.specs.Session.{applied, session_of};
+ghost use Rattle.sfx_model.specs.SessionExamples.{five, item_of, version_of};
 ghost use Rattle.sfx_model.specs.Snapshots.{Carried};
 ghost use Rattle.sfx_model.specs.States.{ChangesMember};
-ghost use Rattle.sfx_model.specs.World.{IsSound, Snapshot, WellFormed, World};
+ghost use Rattle.sfx_model.specs.World.{IsSound, Snapshot, WellFormed, World, empty_world};
 ghost use Rattle.sfx_model.specs.declared.mode.Mode.TheVariants.{Recover};
 
 /// What an applied entry does in every well-formed world, under every rule, as a law: its events may happen
@@ -86,4 +90,38 @@ pub fn sessions_act()
         ChangesMember m (session_of w.units source m rules size cut).course.member c d →
         IsOrderly w.units source → IsOrderly w.units m → 1 ≤ size →
         DeedsContinue w (session_deeds w.units source m rules size cut) d }
+{}
+
+/// No replica of a well-formed world knows or has forgotten more of another than that one made, as a law: of
+/// two members that represent their sites none is ahead of the other, so that no session between them is
+/// refused for that. It does nothing when called.
+pub fn none_is_ahead()
+    ensures { (w : World) (source m : Member) →
+        RepresentsReplica w source.id (shown source) → RepresentsReplica w m.id (shown m) →
+        IsOrderly w.units source →
+        ahead_of m (laid_known w.units source) source.forgotten ≡ None }
+{}
+
+/// The world of a session that is cut, on literals: the replica A created five items, and the new replica B
+/// gets two of them. It does nothing when called.
+///
+/// `before`, `legal`: what happened before the session may happen, and so may the session's deeds.
+/// `entries`: they are the entries of the first two items, and no range is learned. `records`: a session
+/// makes no version, and the world's records are those of the creations, the latest first. `known`,
+/// `present`: of B's site, which knows of each of the five items what it has. `state`: both replicas
+/// represent the world. `facts`: the three facts hold of them. `exact`, `other`: B's knowledge contains the
+/// versions of the two items that it has and no others, while A's contains all. `differ`: so their knowledge
+/// is not equal.
+pub fn cut_run()
+    ensures before { AllLegal empty_world before_cut }
+    ensures legal { AreLegalDeeds world_before cut_deeds }
+    ensures entries { map got cut_deeds ≡ Some (item_of 1 10) ∷ Some (item_of 2 10) ∷ [] }
+    ensures records { cut_world.records ≡ created_records 5 (codes "n5") ++ (created_records 4 (codes "n4") ++ (created_records 3 (codes "n3") ++ (created_records 2 (codes "n2") ++ created_records 1 (codes "n1")))) }
+    ensures known { known_names cut_world 11 ≡ Some ((version_of 1 10 ∷ []) ∷ (version_of 2 10 ∷ []) ∷ [] ∷ [] ∷ [] ∷ []) }
+    ensures present { present_items cut_world 11 ≡ Some (true ∷ true ∷ false ∷ false ∷ false ∷ []) }
+    ensures state { RepresentsWorld cut_world cut_community }
+    ensures facts { FactsHold cut_world cut_community }
+    ensures exact { contained cut_member ≡ true ∷ true ∷ false ∷ false ∷ false ∷ [] }
+    ensures other { contained five ≡ true ∷ true ∷ true ∷ true ∷ true ∷ [] }
+    ensures differ { ¬ HaveEqualKnowledge 2 (shown five) (shown cut_member) }
 {}

@@ -1,0 +1,278 @@
+-- The run with a session that is cut.
+use Rattle.std.proofs.Common.{◌≡◌, ◌≢◌, ℕ, ◌+◌, ◌<◌, ◌≤◌, inl, inr, sym, ap, refl, subst, ◌∙◌, Bool, true, false, true≢false, if◌then◌else◌, List, [], ◌∷◌, map, codes, Some, None, get_or, arith, lit≤, lit<}
+use Rattle.sfx_ids.specs.declared.cut.Cut.{Cut}
+use Rattle.sfx_ids.specs.declared.cut.Cut.TheVariants.{Start, At}
+use Rattle.sfx_ids.specs.declared.item_id.ItemId.{ItemId}
+use Rattle.sfx_ids.specs.Cut.{cut_le}
+use Rattle.sfx_ids.specs.Tick.{max_tick}
+use Rattle.sfx_vector.specs.Clocks.{AreClocks, tick_of}
+use Rattle.sfx_knowledge.specs.Row.{row_at}
+use Rattle.sfx_knowledge.specs.Knowledge.{no_row, tick_at}
+use Rattle.sfx_knowledge.specs.Forgotten.{AreForgets, fvec, nothing_forgotten}
+use Rattle.sfx_knowledge.proofs.Known.{IsKnowledge-nothing}
+use Rattle.sfx_item.specs.Decided.{is_clash}
+use Rattle.sfx_model.specs.Acting.{DeedsContinue, IsMemberOf, IsOrderly}
+use Rattle.sfx_model.specs.Consistent.{AreApart, live_name}
+use Rattle.sfx_model.specs.CutRun.{before_cut, contained, creation, cut_community, cut_deeds, cut_member, cut_world, world_before}
+use Rattle.sfx_model.specs.declared.clash_rule.ClashRule.TheVariants.{Skip as SkipClash}
+use Rattle.sfx_model.specs.declared.keep.Keep.TheVariants.{Skip}
+use Rattle.sfx_model.specs.Events.{AllLegal, Event, Join, Units, after, after_all}
+use Rattle.sfx_model.specs.Headline.{HaveEqualKnowledge}
+use Rattle.sfx_model.specs.Members.{Community, ItemState, Member, MemberItem, NamedMember, AreRising, RepresentsWorld, shown, state_of, vector_at}
+use Rattle.sfx_model.specs.Readings.{clashing_with}
+use Rattle.sfx_model.specs.SessionExamples.{alone, created_of, five, item_of, new, rules_of, segment_of, version_of}
+use Rattle.sfx_model.specs.Sets.{Has}
+use Rattle.sfx_model.specs.States.{ChangesMember, Continues, IsNewState, IsUntaken, KnowsOthersAlike, Rises, next_created, with_item}
+use Rattle.sfx_model.specs.World.{World, WellFormed, empty_world}
+use Rattle.sfx_model.specs.Batch.{batch_from}
+use Rattle.sfx_model.specs.Class.{class_of, absent_class_of}
+use Rattle.sfx_model.specs.Entry.{task_plan, change_others, changed_by, after_task, entry_of}
+use Rattle.sfx_model.specs.Renamed.{renamed, first_free}
+use Rattle.std.specs.Fmt.{digits}
+use Rattle.std.specs.Fmt.Cut.{floor_char_boundary}
+use Rattle.sfx_model.specs.Session.{tasks_of, after_range, go, session_from, session_of}
+use Rattle.sfx_model.proofs.Concluding.{session_state}
+use Rattle.sfx_model.proofs.Due.{item_with, state_has}
+use Rattle.sfx_model.proofs.Naming.{IsNamed, clash_lists, tests_apart}
+use Rattle.sfx_model.proofs.Placing.{with_rising}
+use Rattle.sfx_model.proofs.Refusals.{empty_well_formed}
+use Rattle.sfx_model.proofs.Turns.{create_turn, empty_state, join_state, units_state}
+
+-- The members as A creates item after item, and then with B.
+abbrev a_with : ℕ → List MemberItem → Community
+a_with clock items = record { units = 2; members = record { name = codes "A"; member = alone 10 clock items } ∷ [] }
+
+one_vector : (b : Bool) (u r : ℕ) → tick_of (row_at (if b then (record { base = []; others = [] }) else no_row) u) r ≡ 0
+one_vector true u r = refl
+one_vector false u r = refl
+
+none_forgotten : (b : Bool) (r : ℕ) → tick_of (if b then [] else []) r ≡ 0
+none_forgotten true r = refl
+none_forgotten false r = refl
+
+new_state : (id : ℕ) → IsNewState 2 id (alone id 0 [])
+new_state id = record {
+  id_is = refl;
+  clock = refl;
+  knowledge = λ place u r inside small other. one_vector (cut_le Start place) u r;
+  forgotten = λ place r inside. none_forgotten (cut_le Start place) r;
+  items = refl;
+}
+
+-- A creates one more item.
+one_more :
+    (w : World) (clock tick : ℕ) (items more : List MemberItem) (name : List ℕ)
+    → WellFormed w → RepresentsWorld w (a_with clock items) → clock < max_tick
+    → with_item (next_created (alone 10 clock items) (name ∷ codes "x" ∷ [])) items ≡ more
+    → tick ≡ clock + 1
+    → Continues w (creation tick name) (a_with tick more)
+one_more w clock tick items more name ok rep room are is =
+    subst (λ (t : ℕ). Continues w (creation t name) (a_with t more)) (sym is)
+    (create_turn w (a_with clock items) (a_with (clock + 1) more) (alone 10 clock items) (alone 10 (clock + 1) more) (name ∷ codes "x" ∷ [])
+    ok rep
+    (record { front = []; name = codes "A"; back = []; units = refl; before = refl; now = refl })
+    room refl
+    (record { id = refl; clock = refl; knowledge = λ place u r inside small other. refl; forgotten = refl; holds = sym are }))
+
+abbrev item : ℕ → List ℕ → MemberItem
+item tick name = created_of tick 10 name
+
+-- ---- what happens before the session
+
+abbrev nobody : Community
+nobody = record { units = 2; members = [] }
+
+abbrev both : Community
+both = record { units = 2; members = record { name = codes "A"; member = five } ∷ record { name = codes "B"; member = new } ∷ [] }
+
+abbrev after_units : World
+after_units = after empty_world (Units 2)
+
+abbrev after_join : World
+after_join = after after_units (Join (codes "A") 10)
+
+abbrev after_1 : World
+after_1 = after after_join (creation 1 (codes "n1"))
+
+abbrev after_2 : World
+after_2 = after after_1 (creation 2 (codes "n2"))
+
+abbrev after_3 : World
+after_3 = after after_2 (creation 3 (codes "n3"))
+
+abbrev after_4 : World
+after_4 = after after_3 (creation 4 (codes "n4"))
+
+abbrev after_5 : World
+after_5 = after after_4 (creation 5 (codes "n5"))
+
+step_units : Continues empty_world (Units 2) nobody
+step_units = units_state empty_world (record { units = 0; members = [] }) 2 empty_well_formed empty_state refl refl (lit≤ tt)
+
+step_join : Continues after_units (Join (codes "A") 10) (a_with 0 [])
+step_join =
+    join_state after_units nobody (codes "A") 10 (alone 10 0 []) step_units.well_formed step_units.represents (lit≤ tt)
+    (λ m has. absurd has) (new_state 10)
+
+abbrev one_item : List MemberItem
+one_item = item 1 (codes "n1") ∷ []
+
+abbrev two_items : List MemberItem
+two_items = item 1 (codes "n1") ∷ item 2 (codes "n2") ∷ []
+
+abbrev three_items : List MemberItem
+three_items = item 1 (codes "n1") ∷ item 2 (codes "n2") ∷ item 3 (codes "n3") ∷ []
+
+abbrev four_items : List MemberItem
+four_items = item 1 (codes "n1") ∷ item 2 (codes "n2") ∷ item 3 (codes "n3") ∷ item 4 (codes "n4") ∷ []
+
+step_1 : Continues after_join (creation 1 (codes "n1")) (a_with 1 one_item)
+step_1 = one_more after_join 0 1 [] one_item (codes "n1") step_join.well_formed step_join.represents (lit< tt) refl refl
+
+step_2 : Continues after_1 (creation 2 (codes "n2")) (a_with 2 two_items)
+step_2 = one_more after_1 1 2 one_item two_items (codes "n2") step_1.well_formed step_1.represents (lit< tt) refl refl
+
+step_3 : Continues after_2 (creation 3 (codes "n3")) (a_with 3 three_items)
+step_3 = one_more after_2 2 3 two_items three_items (codes "n3") step_2.well_formed step_2.represents (lit< tt) refl refl
+
+step_4 : Continues after_3 (creation 4 (codes "n4")) (a_with 4 four_items)
+step_4 = one_more after_3 3 4 three_items four_items (codes "n4") step_3.well_formed step_3.represents (lit< tt) refl refl
+
+step_5 : Continues after_4 (creation 5 (codes "n5")) (a_with 5 five.items)
+step_5 = one_more after_4 4 5 four_items five.items (codes "n5") step_4.well_formed step_4.represents (lit< tt) refl refl
+
+no_code : (a b : ℕ) → a ∷ [] ≡ b ∷ [] → a ≡ b
+no_code a b e = ap (λ (xs : List ℕ). get_or xs 0 a) e
+
+other_name : codes "A" ≡ codes "B" → ⊥
+other_name e = let bad : 65 ≡ 66 = no_code 65 66 e in absurd (omega (arith, bad))
+
+b_untaken : IsUntaken (codes "B") 11 (a_with 5 five.items).members
+b_untaken m has = elim has [
+  | inl is ↦ (
+    λ e. other_name (ap (λ (x : NamedMember). x.name) (sym is) ∙ e),
+    λ e. let bad : 10 ≡ 11 = ap (λ (x : NamedMember). x.member.id) (sym is) ∙ e in absurd (omega (arith, bad)),
+  )
+  | inr none ↦ absurd none
+]
+
+step_b : Continues after_5 (Join (codes "B") 11) both
+step_b =
+    join_state after_5 (a_with 5 five.items) (codes "B") 11 new step_5.well_formed step_5.represents (lit≤ tt)
+    b_untaken (new_state 11)
+
+pub before_legal : AllLegal empty_world before_cut
+before_legal = (
+  step_units.legal,
+  (step_join.legal, (step_1.legal, (step_2.legal, (step_3.legal, (step_4.legal, (step_5.legal, (step_b.legal, tt))))))),
+)
+
+-- ---- both members are orderly
+
+no_clocks : (b : Bool) → AreClocks (if b then [] else [])
+no_clocks true = tt
+no_clocks false = tt
+
+nothing_form : AreForgets nothing_forgotten
+nothing_form = record { segments = (refl, tt); clocks = λ place inside. no_clocks (cut_le Start place) }
+
+five_rising : AreRising five.items
+five_rising =
+    with_rising (item 5 (codes "n5")) four_items
+    (with_rising (item 4 (codes "n4")) three_items
+    (with_rising (item 3 (codes "n3")) two_items
+    (with_rising (item 2 (codes "n2")) one_item (with_rising (item 1 (codes "n1")) [] tt refl) refl) refl) refl) refl
+
+named_as : (x : MemberItem) (name : List ℕ) (j : ItemId) (state : ItemState) (a : List ℕ)
+    → item_with j state ≡ x → live_name x.state ≡ Some name → live_name state ≡ Some a
+    → clashing_with name (Some x.id) five.items ≡ [] → clashing_with a (Some j) five.items ≡ []
+named_as x name j state a is named own none =
+    let there : live_name x.state ≡ Some a = ap (λ (y : MemberItem). live_name y.state) (sym is) ∙ own in
+    let same : name ≡ a = cc in
+    let id : x.id ≡ j = ap (λ (y : MemberItem). y.id) (sym is) in
+    subst (λ (n : List ℕ). clashing_with n (Some j) five.items ≡ []) same
+    (subst (λ (i : ItemId). clashing_with name (Some i) five.items ≡ []) id none)
+
+none_clashes : (j : ItemId) (a : List ℕ) → IsNamed five.items j a → clashing_with a (Some j) five.items ≡ []
+unfolding is_clash
+none_clashes j a named = elim (state_has five.items j named.state named.there) [
+  | inl is ↦ named_as (item 1 (codes "n1")) (codes "n1") j named.state a is refl named.live refl
+  | inr more ↦ elim more [
+    | inl is ↦ named_as (item 2 (codes "n2")) (codes "n2") j named.state a is refl named.live refl
+    | inr more ↦ elim more [
+      | inl is ↦ named_as (item 3 (codes "n3")) (codes "n3") j named.state a is refl named.live refl
+      | inr more ↦ elim more [
+        | inl is ↦ named_as (item 4 (codes "n4")) (codes "n4") j named.state a is refl named.live refl
+        | inr more ↦ elim more [
+          | inl is ↦ named_as (item 5 (codes "n5")) (codes "n5") j named.state a is refl named.live refl
+          | inr none ↦ absurd none
+        ]
+      ]
+    ]
+  ]
+]
+
+five_apart : AreApart five.items
+five_apart = tests_apart five.items tests where
+  tests : (j k : ItemId) (a b : List ℕ) → j ≢ k → IsNamed five.items j a → IsNamed five.items k b → is_clash a b ≡ false
+  tests j k a b other first second = by_test (is_clash a b) refl where
+    by_test : (c : Bool) → is_clash a b ≡ c → c ≡ false
+    by_test false e = refl
+    by_test true e = absurd (subst (λ (ids : List ItemId). Has k ids) (none_clashes j a first) (clash_lists five.items j a k b (λ same. other (sym same)) second e))
+
+five_orderly : IsOrderly 2 five
+five_orderly = record {
+  some = lit≤ tt;
+  id = lit< tt;
+  clock = lit≤ tt;
+  knowledge = IsKnowledge-nothing 2;
+  forgotten = nothing_form;
+  rising = five_rising;
+  names = five_apart;
+}
+
+none_apart : AreApart []
+none_apart i j x y a b differ at_i at_j named_i named_j clashes = let bad : None ≡ Some x = at_i in cc
+
+new_orderly : IsOrderly 2 new
+new_orderly = record {
+  some = lit≤ tt;
+  id = lit< tt;
+  clock = lit≤ tt;
+  knowledge = IsKnowledge-nothing 2;
+  forgotten = nothing_form;
+  rising = tt;
+  names = none_apart;
+}
+
+-- ---- the session
+
+pub cut_acts : DeedsContinue world_before cut_deeds cut_community
+cut_acts =
+    session_state world_before both cut_community five new (rules_of Skip SkipClash) 100 (Some 2)
+    step_b.well_formed step_b.represents (λ e. absurd (omega (arith, e)))
+    (record { name = codes "A"; member = five }, inl refl, refl)
+    (record {
+      front = record { name = codes "A"; member = five } ∷ [];
+      name = codes "B";
+      back = [];
+      units = refl;
+      before = refl;
+      now = refl;
+    })
+    five_orderly new_orderly (lit≤ tt)
+
+five_there : vector_at five (At (item_of 3 10)) 0 10 ≡ 5
+five_there = refl
+
+none_here : vector_at cut_member (At (item_of 3 10)) 0 10 ≡ 0
+unfolding is_clash batch_from class_of absent_class_of task_plan change_others changed_by after_task entry_of renamed first_free floor_char_boundary digits tasks_of after_range go session_from session_of
+none_here = refl
+
+apart_ticks : (a b : ℕ) → a ≡ 5 → a ≡ b → b ≡ 0 → ⊥
+apart_ticks a b five same none = omega (arith, five, same, none)
+
+pub cut_differ : ¬ HaveEqualKnowledge 2 (shown five) (shown cut_member)
+cut_differ same =
+    apart_ticks (vector_at five (At (item_of 3 10)) 0 10) (vector_at cut_member (At (item_of 3 10)) 0 10)
+    five_there (same (At (item_of 3 10)) 0 10 tt (lit< tt)) none_here
