@@ -1,64 +1,27 @@
-//! Small replicas, their edits, and what they answer afterwards.
-ghost use Rattle.std.specs.Prelude.{◌≡◌, length, IfOk};
-
+//! The edits that the users of small replicas make.
+use crate::fixtures::{counts, create, is_pair, item_id, pair, set, unit, version, with_names};
 use crate::{EditFault, Replica};
-use sfx_ids::{Cut, ItemId, ReplicaId, Tick, UnitId, Version};
-use sfx_item::{Item, Name, State, Value};
+use sfx_ids::{ItemId, Memory, ReplicaId, UnitId, Version};
+use sfx_item::State;
 use sfx_knowledge::Knowledge;
-use std::alloc::{AllocError, Global};
+use std::alloc::Global;
 use std::process::Abort;
 use std::test::Fail;
 
-pub fn value(alloc: Global, text: &str) -> Result<Value, AllocError> {
-    Ok(Value::new(Vec::from_slice(alloc, text.as_bytes())?))
-}
-
-/// The values of an item with one unit.
-fn one(alloc: Global, name: &str) -> Result<Vec<Value>, AllocError>
-    ensures { IfOk result (λ values. length values.items ≡ 1) }
-{
-    let mut values = Vec::new(alloc);
-    values.push(value(alloc, name)?)?;
-    Ok(values)
-}
-
-/// The values of an item with two units.
-fn two(alloc: Global, name: &str, text: &str) -> Result<Vec<Value>, AllocError>
-    ensures { IfOk result (λ values. length values.items ≡ 2) }
-{
-    let mut values = Vec::new(alloc);
-    values.push(value(alloc, name)?)?;
-    values.push(value(alloc, text)?)?;
-    Ok(values)
-}
-
-fn tick(rt: &impl Abort, count: u64) -> Tick {
-    Tick::new(count).expect(rt, "a tick")
-}
-
-pub fn item_id(rt: &impl Abort, count: u64, replica: u128) -> ItemId {
-    ItemId {
-        tick: tick(rt, count),
-        replica: ReplicaId::new(replica),
-    }
-}
-
-fn version(rt: &impl Abort, replica: u128, count: u64) -> Version {
-    item_id(rt, count, replica).creation()
-}
-
-fn unit<const U: usize>(rt: &impl Abort, index: usize) -> UnitId<U> {
-    UnitId::new(index).expect(rt, "a unit")
+/// Whether the replica stores that it knows nothing.
+fn stores_nothing(alloc: Global, replica: &Replica<1>) -> Result<bool, Memory> {
+    Ok(replica.stored().same(&Knowledge::none(alloc)?))
 }
 
 /// Whether the item is live, with this text at the unit, of this version.
 fn holds<const U: usize>(
-    item: Option<&Item<U>>,
+    replica: &Replica<U>,
+    id: &ItemId,
     unit: UnitId<U>,
     text: &str,
     version: &Version,
 ) -> bool {
-    match item {
+    match replica.item(id) {
         Some(item) => match &item.state {
             State::Live(row) => {
                 let cell = row.cell(unit);
@@ -70,88 +33,186 @@ fn holds<const U: usize>(
     }
 }
 
+/// The id of the replica, its counts, and of how many replicas it has forgotten deletions.
+fn told_of(replica: &Replica<1>) -> (ReplicaId, (u64, u64), usize) {
+    (
+        replica.id(),
+        counts(replica),
+        replica.forgotten().vector().len(),
+    )
+}
+
+#[test]
+fn begins_with_nothing(rt: HostRuntime) -> Result<(), Fail> {
+    let replica = Replica::<1>::new(rt.alloc(), ReplicaId::new(10))?;
+    assert_eq!(rt; told_of(&replica), (ReplicaId::new(10), (0, 0), 0));
+    Ok(())
+}
+
+/// Creates an item: its id, the counts then, and whether the replica holds it with this name.
+fn created(
+    alloc: Global,
+    replica: &mut Replica<1>,
+    unit: UnitId<1>,
+    name: &str,
+) -> Result<(ItemId, (u64, u64), bool), EditFault> {
+    let id = create(alloc, replica, name)?;
+    let is_held = holds(replica, &id, unit, name, &id.creation());
+    Ok((id, counts(replica), is_held))
+}
+
+/// A new replica is to create items at the ticks from 1 on.
+fn expect_created(
+    rt: &impl Abort,
+    alloc: Global,
+    replica: &mut Replica<1>,
+) -> Result<(), EditFault> {
+    let unit = unit::<1>(rt, 0);
+    for (name, count) in [("dir/f", 1), ("dir2", 2), ("di", 3), ("dir/g", 4)] {
+        let told = created(alloc, replica, unit, name)?;
+        let id = item_id(rt, count, 10);
+        assert_eq!(rt; told, (id, (count, count), true), "{name}");
+    }
+    assert!(rt; stores_nothing(alloc, replica)?);
+    Ok(())
+}
+
 #[test]
 fn creates_items(rt: HostRuntime) -> Result<(), Fail> {
     let alloc = rt.alloc();
     let mut replica = Replica::<1>::new(alloc, ReplicaId::new(10))?;
-    assert_eq!(rt; replica.id(), ReplicaId::new(10));
-    assert_eq!(rt; replica.clock(), 0);
-    assert_eq!(rt; replica.items().len(), 0);
-    assert_eq!(rt; replica.forgotten().vector().len(), 0);
-    let unit = unit::<1>(&rt, 0);
-    for (name, count) in [("dir/f", 1), ("dir2", 2), ("di", 3), ("dir/g", 4)] {
-        let id = replica.create(one(alloc, name)?)?;
-        assert_eq!(rt; id, item_id(&rt, count, 10), "{name}");
-        assert_eq!(rt; replica.clock(), count, "{name}");
-        assert_eq!(rt; replica.items().len() as u64, count, "{name}");
-        let made = version(&rt, 10, count);
-        assert!(rt; holds(replica.item(&id), unit, name, &made), "{name}");
-    }
-    assert!(rt; replica.stored().same(&Knowledge::none(alloc)?));
+    expect_created(&rt, alloc, &mut replica)?;
     Ok(())
+}
+
+/// What the replica answers where an item is to be created, and its counts then.
+fn refused_name(
+    alloc: Global,
+    replica: &mut Replica<1>,
+    name: &str,
+) -> (Result<ItemId, EditFault>, (u64, u64)) {
+    let answer = create(alloc, replica, name);
+    (answer, counts(replica))
+}
+
+/// A replica of three items is to refuse texts that are no names.
+fn expect_bad_names(rt: &impl Abort, alloc: Global, replica: &mut Replica<1>) {
+    for (name, at) in [("", 0), ("b/", 2), ("b//f", 2), ("b\u{1}", 1)] {
+        let fault = Err(EditFault::BadName(at));
+        assert_eq!(rt;
+            refused_name(alloc, replica, name),
+            (fault, (3, 3)),
+            "{name}"
+        );
+    }
+}
+
+/// A replica that created `a/x/y`, `a/z` and `b` is to refuse names that clash with theirs.
+fn expect_clashes(rt: &impl Abort, alloc: Global, replica: &mut Replica<1>) {
+    for (name, item) in [("b", 3), ("b/f", 3), ("a", 1), ("a/x", 1), ("a/z/x", 2)] {
+        let fault = Err(EditFault::Clash(item_id(rt, item, 10)));
+        assert_eq!(rt;
+            refused_name(alloc, replica, name),
+            (fault, (3, 3)),
+            "{name}"
+        );
+    }
 }
 
 #[test]
 fn refuses_creation(rt: HostRuntime) -> Result<(), Fail> {
     let alloc = rt.alloc();
-    let mut replica = Replica::<1>::new(alloc, ReplicaId::new(10))?;
-    replica.create(one(alloc, "a/x/y")?)?;
-    replica.create(one(alloc, "a/z")?)?;
-    replica.create(one(alloc, "b")?)?;
-    for (name, fault) in [
-        ("", EditFault::BadName(0)),
-        ("b/", EditFault::BadName(2)),
-        ("b//f", EditFault::BadName(2)),
-        ("b\u{1}", EditFault::BadName(1)),
-        ("b", EditFault::Clash(item_id(&rt, 3, 10))),
-        ("b/f", EditFault::Clash(item_id(&rt, 3, 10))),
-        ("a", EditFault::Clash(item_id(&rt, 1, 10))),
-        ("a/x", EditFault::Clash(item_id(&rt, 1, 10))),
-        ("a/z/x", EditFault::Clash(item_id(&rt, 2, 10))),
-    ] {
-        assert_eq!(rt; replica.create(one(alloc, name)?), Err(fault), "{name}");
-        assert_eq!(rt; replica.clock(), 3, "{name}");
-        assert_eq!(rt; replica.items().len(), 3, "{name}");
-    }
-    assert_eq!(rt; replica.create(one(alloc, "a/x2")?)?, item_id(&rt, 4, 10));
+    let mut replica = with_names(alloc, &["a/x/y", "a/z", "b"])?;
+    expect_bad_names(&rt, alloc, &mut replica);
+    expect_clashes(&rt, alloc, &mut replica);
+    assert_eq!(rt; create(alloc, &mut replica, "a/x2")?, item_id(&rt, 4, 10));
     Ok(())
 }
 
-/// A replica that created `a` and `b/c`, with two units each.
-pub fn pair(alloc: Global, id: u128) -> Result<Replica<2>, EditFault> {
-    let mut replica = Replica::<2>::new(alloc, ReplicaId::new(id))?;
-    replica.create(two(alloc, "a", "1")?)?;
-    replica.create(two(alloc, "b/c", "2")?)?;
-    Ok(replica)
+/// Writes the text to the unit of the item: the version, the counts then, and whether the item has it.
+fn written(
+    alloc: Global,
+    replica: &mut Replica<2>,
+    id: &ItemId,
+    unit: UnitId<2>,
+    text: &str,
+) -> Result<(Version, (u64, u64), bool), EditFault> {
+    let made = set(alloc, replica, id, unit.get(), text)?;
+    let is_held = holds(replica, id, unit, text, &made);
+    Ok((made, counts(replica), is_held))
+}
+
+/// Writes to a pair: an equal value, a name of its own, a name below its own, and one that is free again.
+fn expect_written(
+    rt: &impl Abort,
+    alloc: Global,
+    replica: &mut Replica<2>,
+) -> Result<(), EditFault> {
+    for (item, k, text, count) in [
+        (1, 1, "1", 3),
+        (1, 0, "a", 4),
+        (1, 0, "a/d", 5),
+        (2, 0, "b", 6),
+        (2, 1, "", 7),
+        (1, 0, "a", 8),
+        (1, 1, "b", 9),
+    ] {
+        let id = item_id(rt, item, 10);
+        let told = written(alloc, replica, &id, unit::<2>(rt, k), text)?;
+        assert_eq!(rt; told, (version(rt, 10, count), (count, 2), true), "{text}");
+    }
+    Ok(())
+}
+
+/// The name of the first item and the text of the second are to stay as they were written last.
+fn expect_kept(rt: &impl Abort, replica: &Replica<2>) {
+    let named = version(rt, 10, 8);
+    assert!(rt; holds(replica, &item_id(rt, 1, 10), unit::<2>(rt, 0), "a", &named));
+    let cleared = version(rt, 10, 7);
+    assert!(rt; holds(replica, &item_id(rt, 2, 10), unit::<2>(rt, 1), "", &cleared));
 }
 
 #[test]
 fn sets_values(rt: HostRuntime) -> Result<(), Fail> {
     let alloc = rt.alloc();
     let mut replica = pair(alloc, 10)?;
-    let first = item_id(&rt, 1, 10);
-    let second = item_id(&rt, 2, 10);
-    // an equal value, a name of its own, a name below its own, and one that is free again
-    for (id, k, text, count) in [
-        (first, 1, "1", 3),
-        (first, 0, "a", 4),
-        (first, 0, "a/d", 5),
-        (second, 0, "b", 6),
-        (second, 1, "", 7),
-        (first, 0, "a", 8),
-        (first, 1, "b", 9),
+    expect_written(&rt, alloc, &mut replica)?;
+    expect_kept(&rt, &replica);
+    Ok(())
+}
+
+/// What a pair answers to a text for the unit of the item, its clock then, and whether it is as at first.
+fn refused_text(
+    alloc: Global,
+    replica: &mut Replica<2>,
+    id: &ItemId,
+    k: usize,
+    text: &str,
+) -> Result<(Result<Version, EditFault>, (u64, u64), bool), EditFault> {
+    let answer = set(alloc, replica, id, k, text);
+    Ok((answer, counts(replica), is_pair(alloc, replica)?))
+}
+
+/// A pair is to refuse texts for units that are not there, and for names.
+fn expect_not_written(
+    rt: &impl Abort,
+    alloc: Global,
+    replica: &mut Replica<2>,
+) -> Result<(), EditFault> {
+    for (item, maker, k, text, fault) in [
+        (3, 10, 2, "/", EditFault::NoItem),
+        (1, 11, 0, "a", EditFault::NoItem),
+        (1, 10, 2, "/", EditFault::BadUnit { k: 2, u: 2 }),
+        (1, 10, 7, "b", EditFault::BadUnit { k: 7, u: 2 }),
+        (1, 10, 0, "/", EditFault::BadName(0)),
+        (1, 10, 0, "b/c/", EditFault::BadName(4)),
+        (1, 10, 0, "b", EditFault::Clash(item_id(rt, 2, 10))),
+        (1, 10, 0, "b/c", EditFault::Clash(item_id(rt, 2, 10))),
+        (2, 10, 0, "a/d", EditFault::Clash(item_id(rt, 1, 10))),
     ] {
-        let made = replica.set(&id, k, value(alloc, text)?)?;
-        assert_eq!(rt; made, version(&rt, 10, count), "{text}");
-        assert_eq!(rt; replica.clock(), count, "{text}");
-        let unit = unit::<2>(&rt, k);
-        assert!(rt; holds(replica.item(&id), unit, text, &made), "{text}");
+        let told = refused_text(alloc, replica, &item_id(rt, item, maker), k, text)?;
+        assert_eq!(rt; told, (Err(fault), (2, 2), true), "{text}");
     }
-    assert_eq!(rt; replica.items().len(), 2);
-    let named = version(&rt, 10, 8);
-    assert!(rt; holds(replica.item(&first), unit::<2>(&rt, 0), "a", &named));
-    let cleared = version(&rt, 10, 7);
-    assert!(rt; holds(replica.item(&second), unit::<2>(&rt, 1), "", &cleared));
     Ok(())
 }
 
@@ -159,164 +220,6 @@ fn sets_values(rt: HostRuntime) -> Result<(), Fail> {
 fn refuses_values(rt: HostRuntime) -> Result<(), Fail> {
     let alloc = rt.alloc();
     let mut replica = pair(alloc, 10)?;
-    let kept = pair(alloc, 10)?;
-    let first = item_id(&rt, 1, 10);
-    let second = item_id(&rt, 2, 10);
-    for (id, k, text, fault) in [
-        (item_id(&rt, 3, 10), 2, "/", EditFault::NoItem),
-        (item_id(&rt, 1, 11), 0, "a", EditFault::NoItem),
-        (first, 2, "/", EditFault::BadUnit { k: 2, u: 2 }),
-        (first, 7, "b", EditFault::BadUnit { k: 7, u: 2 }),
-        (first, 0, "/", EditFault::BadName(0)),
-        (first, 0, "b/c/", EditFault::BadName(4)),
-        (first, 0, "b", EditFault::Clash(second)),
-        (first, 0, "b/c", EditFault::Clash(second)),
-        (second, 0, "a/d", EditFault::Clash(first)),
-    ] {
-        let answer = replica.set(&id, k, value(alloc, text)?);
-        assert_eq!(rt; answer, Err(fault), "{text}");
-        assert_eq!(rt; replica.clock(), 2, "{text}");
-        assert!(rt; replica.same_live(&kept), "{text}");
-    }
-    Ok(())
-}
-
-#[test]
-fn knows_its_own_versions(rt: HostRuntime) -> Result<(), Fail> {
-    let alloc = rt.alloc();
-    let replica = pair(alloc, 10)?;
-    let known = replica.knowledge(alloc)?;
-    let unit = unit::<2>(&rt, 1);
-    for (maker, count, is_known) in [(10, 1, true), (10, 2, true), (10, 3, false), (11, 1, false)] {
-        let version = version(&rt, maker, count);
-        for id in [item_id(&rt, 1, 10), item_id(&rt, 2, 10), item_id(&rt, 5, 9)] {
-            assert_eq!(rt; replica.knows(&id, unit, &version), is_known, "{count}");
-            assert_eq!(rt; known.contains(&id, unit, &version), is_known, "{count}");
-            assert!(rt; !replica.stored().contains(&id, unit, &version), "{count}");
-        }
-    }
-    let empty = Replica::<2>::new(alloc, ReplicaId::new(10))?;
-    assert!(rt; empty.knowledge(alloc)?.same(empty.stored()));
-    Ok(())
-}
-
-/// The tick of an item, 0 for none.
-fn tick_of<const U: usize>(item: Option<&Item<U>>) -> u64 {
-    match item {
-        Some(item) => item.id.tick.get(),
-        None => 0,
-    }
-}
-
-fn at(id: &ItemId) -> Cut {
-    Cut::At(*id)
-}
-
-fn after(id: &ItemId) -> Cut {
-    Cut::After(*id)
-}
-
-#[test]
-fn finds_items(rt: HostRuntime) -> Result<(), Fail> {
-    let replica = pair(rt.alloc(), 10)?;
-    for (count, maker, here, from, behind) in [
-        (1, 9, 0, 1, 1),
-        (1, 10, 1, 1, 2),
-        (1, 11, 0, 2, 2),
-        (2, 9, 0, 2, 2),
-        (2, 10, 2, 2, 0),
-        (2, 11, 0, 0, 0),
-        (3, 10, 0, 0, 0),
-    ] {
-        let id = item_id(&rt, count, maker);
-        assert_eq!(rt; tick_of(replica.item(&id)), here, "{count} {maker}");
-        assert_eq!(rt;
-            tick_of(replica.next_from(&at(&id))),
-            from,
-            "{count} {maker}"
-        );
-        assert_eq!(rt;
-            tick_of(replica.next_from(&after(&id))),
-            behind,
-            "{count} {maker}"
-        );
-    }
-    assert_eq!(rt; tick_of(replica.next_from(&Cut::Start)), 1);
-    assert_eq!(rt; tick_of(replica.next_from(&Cut::End)), 0);
-    Ok(())
-}
-
-pub fn name(alloc: Global, text: &str) -> Result<Name, EditFault> {
-    match Name::read(alloc, text.as_bytes()) {
-        Ok(name) => Ok(name),
-        Err(_) => Err(EditFault::BadName(0)),
-    }
-}
-
-#[test]
-fn lists_clashing_items(rt: HostRuntime) -> Result<(), Fail> {
-    let alloc = rt.alloc();
-    let mut replica = Replica::<1>::new(alloc, ReplicaId::new(10))?;
-    let third = item_id(&rt, 3, 10);
-    for name in ["dir/f", "dir2", "dir/g"] {
-        replica.create(one(alloc, name)?)?;
-    }
-    for (text, except, count, least) in [
-        ("dir", None, 2, 1),
-        ("dir", Some(item_id(&rt, 1, 10)), 1, 3),
-        ("dir", Some(item_id(&rt, 1, 11)), 2, 1),
-        ("dir/g", None, 1, 3),
-        ("dir/g/h", None, 1, 3),
-        ("dir/g/h", Some(third), 0, 0),
-        ("di", None, 0, 0),
-        ("dir2/x", Some(third), 1, 2),
-    ] {
-        let ids = replica.clashing(alloc, &name(alloc, text)?, except)?;
-        assert_eq!(rt; ids.len(), count, "{text}");
-        if let Some(id) = ids.first() {
-            assert_eq!(rt; *id, item_id(&rt, least, 10), "{text}");
-        }
-        if ids.len() == 2 {
-            assert_eq!(rt; ids[1], third, "{text}");
-        }
-    }
-    Ok(())
-}
-
-#[test]
-fn compares_live_items(rt: HostRuntime) -> Result<(), Fail> {
-    let alloc = rt.alloc();
-    let mut replicas = Vec::new(alloc);
-    replicas.push(Replica::<2>::new(alloc, ReplicaId::new(10))?)?;
-    replicas.push(pair(alloc, 10)?)?;
-    replicas.push(pair(alloc, 11)?)?;
-    for (k, text) in [(1, "1"), (1, "2"), (0, "a")] {
-        let mut replica = pair(alloc, 10)?;
-        replica.set(&item_id(&rt, 1, 10), k, value(alloc, text)?)?;
-        replicas.push(replica)?;
-    }
-    let mut longer = pair(alloc, 10)?;
-    longer.create(two(alloc, "c", "")?)?;
-    replicas.push(longer)?;
-    for (i, replica) in replicas.iter().enumerate() {
-        for (j, other) in replicas.iter().enumerate() {
-            assert_eq!(rt; replica.same_live(other), i == j, "{i} {j}");
-        }
-    }
-    assert!(rt; pair(alloc, 10)?.same_live(&pair(alloc, 10)?));
-    Ok(())
-}
-
-#[test]
-fn copies_a_replica(rt: HostRuntime) -> Result<(), Fail> {
-    let alloc = rt.alloc();
-    let mut replica = pair(alloc, 10)?;
-    let copy = replica.copy(alloc)?;
-    assert!(rt; copy.same_live(&replica));
-    assert_eq!(rt; copy.id(), replica.id());
-    assert_eq!(rt; copy.clock(), 2);
-    replica.create(two(alloc, "d", "")?)?;
-    assert_eq!(rt; copy.clock(), 2);
-    assert_eq!(rt; copy.items().len(), 2);
+    expect_not_written(&rt, alloc, &mut replica)?;
     Ok(())
 }

@@ -1,0 +1,115 @@
+//! Small replicas, which the tests make, edit and compare.
+ghost use Rattle.std.specs.Prelude.{◌≡◌, length, IfOk};
+
+use crate::{EditFault, Replica};
+use sfx_ids::{ItemId, ReplicaId, Tick, UnitId, Version};
+use sfx_item::{Name, Value};
+use std::alloc::{AllocError, Global};
+use std::process::Abort;
+
+fn value(alloc: Global, text: &str) -> Result<Value, AllocError> {
+    Ok(Value::new(Vec::from_slice(alloc, text.as_bytes())?))
+}
+
+/// The values of an item with one unit.
+fn one(alloc: Global, name: &str) -> Result<Vec<Value>, AllocError>
+    ensures { IfOk result (λ values. length values.items ≡ 1) }
+{
+    let mut values = Vec::new(alloc);
+    values.push(value(alloc, name)?)?;
+    Ok(values)
+}
+
+/// The values of an item with two units.
+fn two(alloc: Global, name: &str, text: &str) -> Result<Vec<Value>, AllocError>
+    ensures { IfOk result (λ values. length values.items ≡ 2) }
+{
+    let mut values = Vec::new(alloc);
+    values.push(value(alloc, name)?)?;
+    values.push(value(alloc, text)?)?;
+    Ok(values)
+}
+
+pub fn name(alloc: Global, text: &str) -> Result<Name, EditFault> {
+    match Name::read(alloc, text.as_bytes()) {
+        Ok(name) => Ok(name),
+        Err(_) => Err(EditFault::BadName(0)),
+    }
+}
+
+fn tick(rt: &impl Abort, count: u64) -> Tick {
+    Tick::new(count).expect(rt, "a tick")
+}
+
+pub fn item_id(rt: &impl Abort, count: u64, replica: u128) -> ItemId {
+    ItemId {
+        tick: tick(rt, count),
+        replica: ReplicaId::new(replica),
+    }
+}
+
+pub fn version(rt: &impl Abort, replica: u128, count: u64) -> Version {
+    item_id(rt, count, replica).creation()
+}
+
+pub fn unit<const U: usize>(rt: &impl Abort, index: usize) -> UnitId<U> {
+    UnitId::new(index).expect(rt, "a unit")
+}
+
+/// Creates an item of one unit in the replica.
+pub fn create(alloc: Global, replica: &mut Replica<1>, name: &str) -> Result<ItemId, EditFault> {
+    replica.create(one(alloc, name)?)
+}
+
+/// Creates an item of two units in the replica.
+pub fn create_two(
+    alloc: Global,
+    replica: &mut Replica<2>,
+    name: &str,
+    text: &str,
+) -> Result<ItemId, EditFault> {
+    replica.create(two(alloc, name, text)?)
+}
+
+/// A replica that created items with these names, of one unit each.
+pub fn with_names(alloc: Global, names: &[&str]) -> Result<Replica<1>, EditFault> {
+    let mut replica = Replica::<1>::new(alloc, ReplicaId::new(10))?;
+    for name in names {
+        create(alloc, &mut replica, name)?;
+    }
+    Ok(replica)
+}
+
+/// Writes the text to the unit of the item.
+pub fn set(
+    alloc: Global,
+    replica: &mut Replica<2>,
+    id: &ItemId,
+    k: usize,
+    text: &str,
+) -> Result<Version, EditFault> {
+    replica.set(id, k, value(alloc, text)?)
+}
+
+/// A replica that created `a` and `b/c`, with two units each.
+pub fn pair(alloc: Global, id: u128) -> Result<Replica<2>, EditFault> {
+    let mut replica = Replica::<2>::new(alloc, ReplicaId::new(id))?;
+    create_two(alloc, &mut replica, "a", "1")?;
+    create_two(alloc, &mut replica, "b/c", "2")?;
+    Ok(replica)
+}
+
+/// The clock of the replica, and how many items it has.
+pub fn counts<const U: usize>(replica: &Replica<U>) -> (u64, u64) {
+    (replica.clock(), replica.items().len() as u64)
+}
+
+/// Whether both have the same live items.
+pub fn are_alike(a: &Replica<2>, b: &Replica<2>) -> bool {
+    a.same_live(b)
+}
+
+/// Whether the replica has the live items of a pair as it is at first.
+pub fn is_pair(alloc: Global, replica: &Replica<2>) -> Result<bool, EditFault> {
+    Ok(are_alike(replica, &pair(alloc, 10)?))
+}
