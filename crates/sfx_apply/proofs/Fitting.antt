@@ -31,7 +31,7 @@ use Rattle.sfx_provider.specs.Commit.{CommitData, commit_of, committed}
 use Rattle.sfx_provider.specs.Fits.{HasOwnClock, IsKnownItem}
 use Rattle.sfx_provider.proofs.Commits.{commits_consistent, commits_exact, stored}
 use Rattle.sfx_provider.proofs.Heads.{unchanged_fits}
-use Rattle.sfx_provider.specs.Head.{head_of}
+use Rattle.sfx_provider.specs.Head.{HeadData, head_of}
 use Rattle.sfx_apply.specs.Work.{KnowsNoMore, Waits, cleared, put_taken, taken_state, with_marks, with_range}
 use Rattle.sfx_apply.proofs.Clashing.{put_apart}
 use Rattle.sfx_apply.proofs.Drafts.{Brings}
@@ -46,6 +46,13 @@ none_waits units m good = record {
   form = IsKnowledge-with_own units m.id m.clock m.knowledge good.knowledge good.clock good.id;
   keeps = refl;
 }
+
+-- So is that of a head that is read.
+pub head_waits :
+    (units : ℕ) (m n : Member) (h : HeadData) (c : CommitData)
+    → IsConsistent units m → h ≡ head_of units m → n ≡ m → c ≡ commit_of h → Waits units c n
+head_waits units m n h c good head same is =
+    subst (λ (x : Member). Waits units c x) (sym same) (subst (λ (x : CommitData). Waits units x m) (sym (is ∙ ap commit_of head)) (none_waits units m good))
 
 -- More is known, but no more of the replica itself.
 abbrev knowing : Known → CommitData → CommitData

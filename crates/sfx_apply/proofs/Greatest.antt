@@ -1,145 +1,21 @@
 -- The greatest tick that is known of a replica.
-use Rattle.std.proofs.Common.{◌≡◌, ℕ, zero, suc, ◌+◌, ◌<◌, ◌≤◌, max, Bool, true, false, if◌then◌else◌, nat_eq, nat_lt, inl, inr, arith, refl, sym, ap, subst, ◌∙◌, List, [], ◌∷◌, map, slice_get, Option, Some, None}
+use Rattle.std.proofs.Common.{◌≡◌, ℕ, ◌<◌, ◌≤◌, max, Bool, true, false, if◌then◌else◌, nat_lt, arith, refl, sym, ap, subst, ◌∙◌, [], ◌∷◌, Some, None}
 use Rattle.std.specs.List.{flat_map}
 use Rattle.std.proofs.lemmas.Bool.Decides.{nat_tests}
 use Rattle.sfx_ids.specs.declared.cut.Cut.{Cut}
 use Rattle.sfx_ids.specs.declared.cut.Cut.TheVariants.{Start}
-use Rattle.sfx_ids.proofs.CutOrder.{start-le, le-self}
+use Rattle.sfx_ids.proofs.CutOrder.{start-le}
 use Rattle.sfx_vector.specs.Clocks.{Clocks, AreClocks, tick_of}
-use Rattle.sfx_segments.specs.Segments.{IsPlace, AreSegments}
-use Rattle.sfx_knowledge.specs.Row.{UnitClocks, listed_or, row_at, AreExceptions, IsRow}
-use Rattle.sfx_knowledge.specs.Knowledge.{Known, no_row, tick_at, AreRows, IsKnowledge, IsMost}
+use Rattle.sfx_segments.specs.Segments.{IsPlace}
+use Rattle.sfx_knowledge.specs.Knowledge.{Known, IsKnowledge, IsMost}
 use Rattle.sfx_knowledge.specs.Forgotten.{Forgets, AreForgets, fvec}
 use Rattle.sfx_knowledge.proofs.Forgets.{same_forgets}
-use Rattle.sfx_knowledge.proofs.RowForms.{listed-here, listed-past, row_at-first}
-use Rattle.sfx_knowledge.proofs.Starts.{found, begins}
 use Rattle.sfx_model.specs.Batch.{Batch, IsBatch}
 use Rattle.sfx_model.specs.Knowing.{ahead_of, most_in, most_known, row_clocks}
 use Rattle.sfx_model.specs.Members.{Member}
-use Rattle.sfx_model.specs.Sets.{Has}
-use Rattle.sfx_model.proofs.Sets.{has_left, has_right, has_either}
+use Rattle.sfx_model.proofs.Most.{known_bound, known_within}
 use Rattle.sfx_provider.specs.Head.{HeadData, head_of}
 use Rattle.sfx_apply.specs.Work.{KnowsNoMore}
-
--- ---- elements of lists
-
-has_at : {A : Type 0} (xs : List A) (k : ℕ) (x : A) → slice_get xs k ≡ Some x → Has x xs
-has_at [] k x at = absurd (no_some at)
-  where
-    no_some : (let none : Option _ = None in none ≡ Some x) → ⊥
-    no_some e = cc
-has_at (y ∷ ys) zero x at = inl (let e : y ≡ x = cc in sym e)
-has_at (y ∷ ys) (suc k) x at = inr (has_at ys k x at)
-
-at_has : {A : Type 0} (xs : List A) (x : A) → Has x xs → (k : ℕ) × (slice_get xs k ≡ Some x)
-at_has [] x h = absurd h
-at_has (y ∷ ys) x h = elim h [
-  | inl is ↦ (0, ap Some (sym is))
-  | inr there ↦ (let at = at_has ys x there in (suc at.0, at.1))
-]
-
-has_mapped : {A B : Type 0} (f : A → B) (xs : List A) (y : B) → Has y (map f xs) → (x : A) × Has x xs × (y ≡ f x)
-has_mapped f [] y h = absurd h
-has_mapped f (x ∷ xs) y h = elim h [
-  | inl is ↦ (x, inl refl, is)
-  | inr there ↦ (let at = has_mapped f xs y there in (at.0, inr at.1, at.2))
-]
-
-has_flattened : {A B : Type 0} (f : A → List B) (xs : List A) (y : B) → Has y (flat_map f xs) → (x : A) × Has x xs × Has y (f x)
-has_flattened f [] y h = absurd h
-has_flattened f (x ∷ xs) y h = elim (has_either y (f x) (flat_map f xs) h) [
-  | inl here ↦ (x, inl refl, here)
-  | inr there ↦ (let at = has_flattened f xs y there in (at.0, inr at.1, at.2))
-]
-
-has_flat : {A B : Type 0} (f : A → List B) (xs : List A) (x : A) (y : B) → Has x xs → Has y (f x) → Has y (flat_map f xs)
-has_flat f [] x y h there = absurd h
-has_flat {A} {B} f (z ∷ zs) x y h there = elim h [
-  | inl is ↦ has_left y (f z) (flat_map f zs) (subst (λ (a : A). Has y (f a)) is there)
-  | inr rest ↦ has_right y (f z) (flat_map f zs) (has_flat f zs x y rest there)
-]
-
--- ---- the greatest tick in vectors
-
-most_bound : (r n : ℕ) (cs : List Clocks) → ((c : Clocks) → Has c cs → tick_of c r ≤ n) → most_in r cs ≤ n
-most_bound r n [] each = omega arith
-most_bound r n (c ∷ cs) each =
-    let first = each c (inl refl) in
-    let rest = most_bound r n cs (λ d h. each d (inr h)) in
-    grind (arith, first, rest)
-
-most_has : (r : ℕ) (cs : List Clocks) (c : Clocks) → Has c cs → tick_of c r ≤ most_in r cs
-most_has r [] c h = absurd h
-most_has r (d ∷ ds) c h = elim h [
-  | inl is ↦ (let same = ap (λ (x : Clocks). tick_of x r) is in grind (arith, same))
-  | inr there ↦ (let rest = most_has r ds c there in grind (arith, rest))
-]
-
--- ---- the vectors of a row
-
--- a listed vector is that of its unit
-listed_is : (units : ℕ) (base : Clocks) (low : ℕ) (os : List (ℕ × Clocks)) (o : ℕ × Clocks) → AreExceptions units base low os → Has o os
-    → (low ≤ o.0) × (o.0 < units) × (listed_or base os o.0 ≡ o.1)
-listed_is units base low [] o form h = absurd h
-listed_is units base low (p ∷ ps) o form h = elim h [
-  | inl is ↦ subst (λ (x : ℕ × Clocks). (low ≤ x.0) × (x.0 < units) × (listed_or base (p ∷ ps) x.0 ≡ x.1)) (sym is)
-      (form.0, form.1, listed-here base p ps p.0 refl)
-  | inr there ↦
-      (let rest = listed_is units base (p.0 + 1) ps o form.4 there in
-      let behind : p.0 + 1 ≤ o.0 = rest.0 in
-      let first : low ≤ p.0 = form.0 in
-      (omega arith, rest.1, listed-past base p ps o.0 (λ e. absurd (omega (arith, e, behind))) ∙ rest.2))
-]
-
--- each vector of a row is that of some unit
-unit_of : (units : ℕ) (row : UnitClocks) (c : Clocks) → 1 ≤ units → IsRow units row → Has c (row_clocks row) → (u : ℕ) × (u < units) × (row_at row u ≡ c)
-unit_of units row c some form h = elim h [
-  | inl is ↦ (0, omega (arith, some), row_at-first units row form ∙ sym is)
-  | inr there ↦
-      (let at = has_mapped (λ (o : ℕ × Clocks). o.1) row.others c there in
-      let listed = listed_is units row.base 1 row.others at.0 form.others at.1 in
-      (at.0.0, listed.1, listed.2 ∙ sym at.2))
-]
-
--- the vector of a unit is one of those of the row
-row_at-has : (base : Clocks) (os : List (ℕ × Clocks)) (u : ℕ) → Has (listed_or base os u) (base ∷ map (λ o. o.1) os)
-row_at-has base [] u = inl refl
-row_at-has base (o ∷ os) u = by_test (nat_eq o.0 u) (row_at-has base os u)
-  where
-    by_test : (b : Bool) → Has (listed_or base os u) (base ∷ map (λ o. o.1) os) → Has (if b then o.1 else listed_or base os u) (base ∷ o.1 ∷ map (λ o. o.1) os)
-    by_test true rest = inr (inl refl)
-    by_test false rest = elim rest [ inl first ↦ inl first | inr there ↦ inr (inr there) ]
-
-row_has : (units : ℕ) (known : Known) (p : Cut × UnitClocks) → AreRows units known → Has p known → IsRow units p.1
-row_has units [] p rows h = absurd h
-row_has units (q ∷ qs) p rows h = elim h [
-  | inl is ↦ subst (λ (x : Cut × UnitClocks). IsRow units x.1) (sym is) rows.0
-  | inr there ↦ row_has units qs p rows.1 there
-]
-
--- ---- the greatest tick that is known of a replica
-
-known_bound : (units r n : ℕ) (known : Known) → 1 ≤ units → IsKnowledge units known → IsMost units known r n
-    → most_in r (flat_map (λ p. row_clocks p.1) known) ≤ n
-known_bound units r n known some form most =
-    most_bound r n (flat_map (λ p. row_clocks p.1) known) (λ c h.
-    let segment = has_flattened (λ (p : Cut × UnitClocks). row_clocks p.1) known c h in
-    let unit = unit_of units segment.0.1 c some (row_has units known segment.0 form.rows segment.1) segment.2 in
-    let at = at_has known segment.0 segment.1 in
-    let there = begins no_row known at.0 segment.0 form.segments at.1 in
-    subst (λ (d : Clocks). tick_of d r ≤ n) (ap (λ (row : UnitClocks). row_at row unit.0) there.1 ∙ unit.2)
-    (most.bound segment.0.0 unit.0 there.0 unit.1))
-
--- no tick of the replica is greater
-known_within : (r u : ℕ) (known : Known) (place : Cut) → AreSegments known → IsPlace place
-    → tick_at known place u r ≤ most_in r (flat_map (λ p. row_clocks p.1) known)
-known_within r u known place form is =
-    let at = found no_row known place form in
-    let row = at.segment.1 in
-    subst (λ (x : UnitClocks). tick_of (row_at x u) r ≤ most_in r (flat_map (λ p. row_clocks p.1) known)) (sym (at.has place at.le (le-self place)))
-    (most_has r (flat_map (λ p. row_clocks p.1) known) (row_at row u)
-    (has_flat (λ (p : Cut × UnitClocks). row_clocks p.1) known at.segment (row_at row u)
-    (has_at known at.index at.segment at.at) (row_at-has row.base row.others u)))
 
 known_met : (units r n : ℕ) (known : Known) → IsKnowledge units known → IsMost units known r n
     → n ≤ most_in r (flat_map (λ p. row_clocks p.1) known)
@@ -166,7 +42,7 @@ pub most_known_is : (units r known_most : ℕ) (known : Known) (forgotten : Forg
     → AreForgets forgotten → ((place : Cut) → IsPlace place → fvec forgotten place ≡ v)
     → max known_most (tick_of v r) ≡ most_known r known forgotten
 most_known_is units r known_most known forgotten v some form most forgot everywhere =
-    let low = known_bound units r known_most known some form most in
+    let low = known_bound units r known_most known some form most.bound in
     let high = known_met units r known_most known form most in
     let is : most_in r (flat_map (λ p. row_clocks p.1) known) ≡ known_most = omega (arith, low, high) in
     rw (forgets_are forgotten v forgot everywhere, is) (grind arith)
@@ -187,15 +63,32 @@ not_ahead units m b batch none = record {
     by_test true e f = absurd (cc)
     by_test false e f = grind (arith, nat_tests, e)
 
--- The same by what is read of the replica and of the batch.
-pub behind_clock :
-    (units id clock tick : ℕ) (known : Known) (forgotten : Forgets) (m n : Member) (b : Batch) (h : HeadData)
-    → IsBatch units b → h ≡ head_of units m → n ≡ m → id ≡ h.id → clock ≡ h.clock → known ≡ b.made_with → forgotten ≡ b.forgotten
-    → tick ≡ most_known id known forgotten → tick ≤ clock → KnowsNoMore units n b
-behind_clock units id clock tick known forgotten m n b h batch head same id_is clock_is known_is forgotten_is most low =
+-- The tick that is found is the greatest, by what is read of the replica and of the batch.
+pub tick_found :
+    (units id tick : ℕ) (known : Known) (forgotten : Forgets) (m : Member) (b : Batch) (h : HeadData)
+    → h ≡ head_of units m → id ≡ h.id → known ≡ b.made_with → forgotten ≡ b.forgotten
+    → tick ≡ most_known id known forgotten → tick ≡ most_known m.id b.made_with b.forgotten
+tick_found units id tick known forgotten m b h head id_is known_is forgotten_is most =
     let own : id ≡ m.id = id_is ∙ ap (λ (x : HeadData). x.id) head in
+    most ∙ rw (own, known_is, forgotten_is) refl
+
+-- Where it is not greater than the clock that is read, the batch knows no more.
+pub behind_clock :
+    (units clock tick : ℕ) (m n : Member) (b : Batch) (h : HeadData)
+    → IsBatch units b → h ≡ head_of units m → n ≡ m → clock ≡ h.clock
+    → tick ≡ most_known m.id b.made_with b.forgotten → tick ≤ clock → KnowsNoMore units n b
+behind_clock units clock tick m n b h batch head same clock_is tick_is low =
     let time : clock ≡ m.clock = clock_is ∙ ap (λ (x : HeadData). x.clock) head in
-    let tick_is : tick ≡ most_known m.id b.made_with b.forgotten = most ∙ rw (own, known_is, forgotten_is) refl in
     let within : most_known m.id b.made_with b.forgotten ≤ m.clock = omega (arith, tick_is, time, low) in
     let fails : nat_lt m.clock (most_known m.id b.made_with b.forgotten) ≡ false = grind (arith, nat_tests, within) in
     subst (λ (x : Member). KnowsNoMore units x b) (sym same) (not_ahead units m b batch (rw fails refl))
+
+-- Where it is greater, the replica is ahead.
+pub before_tick :
+    (units clock tick : ℕ) (m : Member) (b : Batch) (h : HeadData) → h ≡ head_of units m → clock ≡ h.clock
+    → tick ≡ most_known m.id b.made_with b.forgotten → clock < tick → ahead_of m b.made_with b.forgotten ≡ Some tick
+before_tick units clock tick m b h head clock_is tick_is high =
+    let time : clock ≡ m.clock = clock_is ∙ ap (λ (x : HeadData). x.clock) head in
+    let beyond : m.clock < most_known m.id b.made_with b.forgotten = omega (arith, tick_is, time, high) in
+    let holds : nat_lt m.clock (most_known m.id b.made_with b.forgotten) ≡ true = grind (arith, nat_tests, beyond) in
+    rw holds (ap Some (sym tick_is))

@@ -15,3 +15,4 @@ pub mod LearnedForms
 pub mod Entering
 pub mod Greatest
 pub mod Looping
+pub mod Bringing

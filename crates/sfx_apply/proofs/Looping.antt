@@ -1,6 +1,5 @@
 -- One turn of a batch, and its range at the end, by what the steps say.
 use Rattle.std.proofs.Common.{◌≡◌, ◌⊎◌, Bor, ℕ, zero, suc, ◌+◌, ◌<◌, ◌≤◌, Bool, true, false, not, if◌then◌else◌, nat_lt, List, [], ◌∷◌, ◌++◌, length, map, drop, get_or, Option, Some, None, inl, inr, refl, sym, ◌∙◌, ap, subst, arith}
-use Rattle.std.specs.Prelude.{IfSome}
 use Rattle.std.specs.List.{filter}
 use Rattle.std.proofs.lemmas.Bool.Decides.{nat_tests}
 use Rattle.std.proofs.lemmas.List.{drop_all, length-drop, length-map, map-append}
@@ -18,9 +17,8 @@ use Rattle.sfx_model.specs.Rules.{skip_rules}
 use Rattle.sfx_model.specs.Session.{Outcome, applied, go, is_live_state, is_more, tasks_of}
 use Rattle.sfx_model.specs.Sets.{Has}
 use Rattle.sfx_provider.specs.Course.{CameInPart}
-use Rattle.sfx_provider.specs.Head.{HeadData, head_of}
 use Rattle.sfx_provider.proofs.Courses.{opened}
-use Rattle.sfx_apply.specs.Turns.{IsKeptIn, WorkData, destination, due_after, end_before, in_turn, seen_views, state_if, states_if, turned, with_range_of, work_at, work_begun, work_if}
+use Rattle.sfx_apply.specs.Turns.{IsKeptIn, WorkData, destination, due_after, end_before, in_turn, seen_views, state_if, states_if, turned, with_range_of, work_begun, work_if}
 use Rattle.sfx_apply.specs.Work.{KnowsNoMore}
 use Rattle.sfx_apply.proofs.Clashing.{state_has}
 use Rattle.sfx_apply.proofs.Standing.{Arrived, Ends, Stands, arrived_on, begun, finishing, kept_on, part_on, range_part, read_before, step_off, step_on, turn_part}
@@ -245,23 +243,6 @@ range_kept {U} came p q kept b group out first m w refs i stands past good batch
     subst (λ (xs : List MemberItem). Stands (Arrived came p q first m) U b group out m w xs) (none_left refs i past) stands in
     kept_on kept group first m (committed group here.moments) (destination U (with_range_of U b w) m ∷ []) out.moments
     here.came.among is (range_part (Arrived came p q first m) U b group out m w here good batch normal)
-
--- The work that begins at what is read of the replica.
-pub work_read :
-    (units : ℕ) (m n : Member) (h : HeadData) (w : WorkData) (budget : Option ℕ)
-    → w ≡ work_at h budget → h ≡ head_of units m → n ≡ m → w ≡ work_begun units w.budget n
-work_read units m n h w budget begun_at head same =
-    begun_at
-    ∙ ap (λ (x : HeadData). work_at x budget) head
-    ∙ ap (work_begun units budget) (sym same)
-    ∙ ap (λ (o : Option ℕ). work_begun units o n) (sym (ap (λ (x : WorkData). x.budget) begun_at))
-
--- What was told of the kept state is told after a reading.
-pub told_still :
-    (kept kept' : Option Member) (n m : Member)
-    → kept ≡ kept' → n ≡ m → IfSome kept' (λ k. k ≡ m) → IfSome kept (λ k. k ≡ n)
-told_still kept kept' n m same_kept same told =
-    subst (λ (o : Option Member). IfSome o (λ k. k ≡ n)) (sym same_kept) (subst (λ (x : Member). IfSome kept' (λ k. k ≡ x)) (sym same) told)
 
 -- A reading before the batch changes nothing of what a fault in it leaves.
 pub batch_fault :

@@ -22,6 +22,13 @@ TellsAhead ahead clock (Err (Ahead tick own)) = (ahead ≡ Some tick) × (own �
 TellsAhead ahead clock (Err Provider) = Unit {0}
 TellsAhead ahead clock (Err Memory) = Unit {0}
 
+-- The answer is not that the replica is ahead.
+abbrev pub IsNotAhead : {T : Type 0} → Result T ApplyFault → Type 0
+IsNotAhead (Ok x) = Unit {0}
+IsNotAhead (Err (Ahead tick clock)) = ⊥
+IsNotAhead (Err Provider) = Unit {0}
+IsNotAhead (Err Memory) = Unit {0}
+
 -- The provider is as it was: its state and its kept state are the same, and it came by no commit.
 abbrev pub Untouched : {P : Type 0} → (P → Member) → (P → Option Member) → (P → P → List Member → Type 0) → P → P → Type 0
 Untouched state kept came old new = (state new ≡ state old) × (kept new ≡ kept old) × came old new []

@@ -16,7 +16,7 @@ use Rattle.sfx_model.specs.Rules.{skip_rules}
 use Rattle.sfx_model.specs.Session.{is_live_state, lefts, reduced, stop_before}
 use Rattle.sfx_model.specs.Sets.{Has}
 use Rattle.sfx_provider.specs.Commit.{CommitData, commit_of, committed}
-use Rattle.sfx_provider.specs.Head.{HeadData, head_of}
+use Rattle.sfx_provider.specs.Head.{head_of}
 use Rattle.sfx_apply.specs.Work.{cleared, with_marks, with_range}
 
 -- How far the applying of a batch has come: what waits to be committed, the entries, and how many more of
@@ -29,14 +29,6 @@ pub record WorkData : Type 0 where
 -- The work before the first entry: nothing waits.
 abbrev pub work_begun : ℕ → Option ℕ → Member → WorkData
 work_begun units budget m = record { pending = commit_of (head_of units m); entries = []; budget = budget }
-
--- The same by the head of the replica.
-abbrev pub work_at : HeadData → Option ℕ → WorkData
-work_at h budget = record {
-  pending = commit_of h;
-  entries = [];
-  budget = budget;
-}
 
 -- The changes of a batch in the order in which they are applied: the deletions, and then the live ones.
 abbrev pub in_turn : List MemberItem → List MemberItem

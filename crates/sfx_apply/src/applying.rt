@@ -1,11 +1,15 @@
 ghost use Rattle.std.specs.Prelude.{◌≡◌, ◌≤◌, IfOk, IfSome, IsSome, OnOk, OnErr};
-ghost use Rattle.sfx_apply.specs.Fault.{HasCause, TellsAhead, Untouched};
-ghost use Rattle.sfx_apply.specs.Turns.{IsKeptIn, work_at, work_begun};
-ghost use Rattle.sfx_apply.specs.Work.{KnowsNoMore};
+ghost use Rattle.sfx_apply.specs.Fault.{HasCause, IsNotAhead, TellsAhead, Untouched};
+ghost use Rattle.sfx_apply.specs.Turns.{IsKeptIn, work_begun};
+ghost use Rattle.sfx_apply.specs.Work.{KnowsNoMore, Waits};
+ghost use Rattle.sfx_model.specs.Acting.{Brings, DeedsActIn, IsOrderly};
+ghost use Rattle.sfx_model.specs.Deeds.{batch_deeds};
 ghost use Rattle.sfx_model.specs.Knowing.{ahead_of};
+ghost use Rattle.sfx_model.specs.Members.{Member};
 ghost use Rattle.sfx_model.specs.Moments.{committed, stops};
 ghost use Rattle.sfx_model.specs.Rules.{skip_rules};
 ghost use Rattle.sfx_model.specs.Session.{applied, applied_batch};
+ghost use Rattle.sfx_model.specs.World.{World};
 ghost use Rattle.sfx_model.specs.declared.mode.Mode.TheVariants.{Normal};
 ghost use Rattle.sfx_provider.specs.Course.{CameInPart};
 ghost use Rattle.sfx_provider.specs.Fault.{HasCause as HasProviderCause};
@@ -16,7 +20,7 @@ use crate::work::Work;
 use crate::{Applied, ApplyFault, most_known};
 use sfx_batch::Batch;
 use sfx_model::ApplyEnd;
-use sfx_provider::{Head, Provider, ProviderFault};
+use sfx_provider::{Provider, ProviderFault};
 use std::alloc::Global;
 
 /// Applies a batch to the replica of a provider, where conflicts are skipped: what the source sent is brought,
@@ -27,6 +31,13 @@ use std::alloc::Global;
 /// The replica is changed by commits: one after each `group` entries while changes are left, and one at the
 /// end of the batch. With a `budget` no more than so many entries are applied; where changes are left then,
 /// the end is `Cut`, and the range is not learned. `Full` is no end here, as no tick is drawn.
+///
+/// What that means among all replicas (`acts`): take any well-formed world in which source and destination are
+/// two replicas that their states represent, and a batch that is due from this source to this destination,
+/// which knows the deletions that the batch has forgotten. Where the answer is Ok, the deeds of the batch may
+/// happen in that world one after another, and the world after them is well-formed; there the destination as
+/// it is afterwards represents its replica, and the source, as it was, still represents its own. That holds
+/// whether the batch was applied to its end or cut. In such a world the answer is never `Ahead` (`not_ahead`).
 ///
 /// # Errors
 /// - `Ahead` exactly where the batch knows or has forgotten a greater tick of the replica than its clock;
@@ -49,8 +60,41 @@ pub fn apply_batch<const U: usize, P: Provider<U>>(
     ensures came { OnOk result (P.came provider.old provider.new (committed group (applied U batch.now skip_rules budget (P.state provider.old)).moments)) }
     ensures fault { OnErr result (CameInPart P.came P.broke provider.old provider.new (committed group (applied U batch.now skip_rules budget (P.state provider.old)).moments)) }
     ensures kept { OnErr result (IsKeptIn (P.kept provider.new) (stops group (P.state provider.old) (applied U batch.now skip_rules budget (P.state provider.old)).moments)) }
+    ensures acts { OnOk result ((w : World) (source : Member) → Brings w U source (P.state provider.old) batch.now → DeedsActIn w (batch_deeds U batch.now skip_rules budget (P.state provider.old)) source (P.state provider.old).id (P.state provider.new)) }
     ensures ahead { TellsAhead (ahead_of (P.state provider.old) batch.now.made_with batch.now.forgotten) (P.state provider.old).clock result }
+    ensures not_ahead { (w : World) (source : Member) → Brings w U source (P.state provider.old) batch.now → IsNotAhead result }
     ensures untouched { IsSome (ahead_of (P.state provider.old) batch.now.made_with batch.now.forgotten) → Untouched P.state P.kept P.came provider.old provider.new }
+    ensures cause { HasCause (P.faults provider.old) (P.faults provider.new) result }
+{
+    let work = begin(alloc, provider, batch, budget)?;
+    match apply_changes(alloc, provider, batch, group, work) {
+        Ok(applied) => Ok(applied),
+        Err(ProviderFault::Failed) => Err(ApplyFault::Provider),
+        Err(ProviderFault::Memory) => Err(ApplyFault::Memory),
+    }
+}
+
+/// The work before the first entry, when nothing waits. The destination stays as it is, whatever is answered.
+///
+/// # Errors
+/// - `Ahead` exactly where the batch knows or has forgotten more of the destination than that made.
+/// - `Provider` and `Memory`, of the reading.
+fn begin<const U: usize, P: Provider<U>>(
+    alloc: Global,
+    provider: &mut P,
+    batch: &Batch<U>,
+    budget: Option<u64>,
+) -> Result<Work<U>, ApplyFault>
+    requires told { IfSome (P.kept provider.old) (λ k. k ≡ P.state provider.old) }
+    ensures begun { IfOk result (λ work. work ≡ work_begun U work.budget (P.state provider.new)) }
+    ensures budget { IfOk result (λ work. work.budget ≡ budget) }
+    ensures waits { IfOk result (λ work. Waits U work.pending (P.state provider.new)) }
+    ensures no_more { OnOk result (KnowsNoMore U (P.state provider.new) batch.now) }
+    ensures orderly { OnOk result (IsOrderly U (P.state provider.old)) }
+    ensures ahead { TellsAhead (ahead_of (P.state provider.old) batch.now.made_with batch.now.forgotten) (P.state provider.old).clock result }
+    ensures not_ahead { (w : World) (source : Member) → Brings w U source (P.state provider.old) batch.now → IsNotAhead result }
+    ensures told { IfSome (P.kept provider.new) (λ k. k ≡ P.state provider.new) }
+    ensures untouched { Untouched P.state P.kept P.came provider.old provider.new }
     ensures cause { HasCause (P.faults provider.old) (P.faults provider.new) result }
 {
     batch.keeps();
@@ -60,27 +104,17 @@ pub fn apply_batch<const U: usize, P: Provider<U>>(
         Err(ProviderFault::Failed) => return Err(ApplyFault::Provider),
         Err(ProviderFault::Memory) => return Err(ApplyFault::Memory),
     };
+    let _in_form = head.forgotten.vector();
     let tick = most_known(&batch.made_with, &batch.forgotten, &head.id);
     let clock = head.clock;
     if tick > clock {
         return Err(ApplyFault::Ahead { tick, clock });
     }
-    match apply_changes(alloc, provider, batch, group, begin(alloc, head, budget)) {
-        Ok(applied) => Ok(applied),
-        Err(ProviderFault::Failed) => Err(ApplyFault::Provider),
-        Err(ProviderFault::Memory) => Err(ApplyFault::Memory),
-    }
-}
-
-/// The work before the first entry: nothing waits.
-fn begin<const U: usize>(alloc: Global, head: Head<U>, budget: Option<u64>) -> Work<U>
-    ensures { result ≡ work_at head.entry budget }
-{
-    Work {
+    Ok(Work {
         pending: head.into_commit(alloc),
         entries: Vec::new(alloc),
         budget,
-    }
+    })
 }
 
 /// Applies the changes of a batch, the deletions first and then the live ones, and learns the batch's range.

@@ -25,5 +25,7 @@ mod puts;
 mod reading;
 mod stepping;
 mod taking;
+#[cfg(test)]
+mod tests;
 mod turn;
 mod work;

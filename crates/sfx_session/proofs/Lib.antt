@@ -3,3 +3,4 @@ pub mod Travels
 pub mod Skipping
 pub mod Deciding
 pub mod Refusing
+pub mod Acting

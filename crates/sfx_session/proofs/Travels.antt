@@ -265,6 +265,30 @@ goes_to_place b a t goes = by_cut b.to (open_end b.to a.end (reduced t.budget (l
     by_cut (After i) more = tt
     by_cut End more = absurd (true≢false more)
 
+-- where one batch was applied and the session ends with it, as it was answered, all of the session is done
+pub batch_ends : {P : Type 0} (came : P → P → List Member → Type 0) (p q r : P)
+    (units : ℕ) (source : Member) (mode : Mode) (size group : ℕ) (first : Member) (out : SessionResult) (now : Member) (t : TravelData)
+    (seen next : Member) (later : TravelData) (answer : Option SessionEnd) (end : SessionEnd)
+    → ((a b c : P) (m n : List Member) → came a b m → came b c n → came a c (m ++ n))
+    → Travels (came p q) units source mode size group first out now t
+    → seen ≡ source
+    → answer ≡ arrival (due_batch units seen mode size now t) (applied_batch (due_outcome units seen mode size now t)) t
+    → answer ≡ Some end
+    → later ≡ travelled (due_batch units seen mode size now t) (applied_batch (due_outcome units seen mode size now t)) t
+    → next ≡ (due_outcome units seen mode size now t).member
+    → came q r (committed group (due_outcome units seen mode size now t).moments)
+    → Ended (came p r) group out next later end
+batch_ends came p q r units source mode size group first out now t seen next later answer end on travels same answered is travel state comes =
+    let o = due_outcome units source mode size now t in
+    let ends : arrival (due_batch units source mode size now t) (applied_batch o) t ≡ Some end = rw same at (sym answered ∙ is) in
+    let all = travel_ends (came p q) (came p r) units source mode size group first out now t end travels ends
+    (λ xs before. on p q r xs (committed group o.moments) before (rw same at comes)) in record {
+      member = (rw same at state) ∙ all.member;
+      steps = ap (λ (x : TravelData). x.steps) (rw same at travel) ∙ all.steps;
+      end_is = all.end_is;
+      came = all.came;
+    }
+
 -- a fault in a batch leaves a part of the session's commits
 pub fault_on : {P : Type 0} (came : P → P → List Member → Type 0) (broke : P → P → Member → Type 0) (p q r : P)
     (units : ℕ) (source : Member) (mode : Mode) (size group : ℕ) (first : Member) (out : SessionResult) (now : Member) (t : TravelData)

@@ -60,6 +60,16 @@ OnRefusal (Err Source) P = Unit {0}
 OnRefusal (Err Destination) P = Unit {0}
 OnRefusal (Err Memory) P = Unit {0}
 
+-- The answer is not that the source is ahead of the destination.
+abbrev pub IsNotAhead : {A : Type 0} → Result A SessionFault → Type 0
+IsNotAhead (Ok x) = Unit {0}
+IsNotAhead (Err SameReplica) = Unit {0}
+IsNotAhead (Err (Ahead tick clock)) = ⊥
+IsNotAhead (Err NotBuilt) = Unit {0}
+IsNotAhead (Err Source) = Unit {0}
+IsNotAhead (Err Destination) = Unit {0}
+IsNotAhead (Err Memory) = Unit {0}
+
 -- The answer is no refusal: it is Ok, or a provider failed or memory was wanting.
 abbrev pub IsNoRefusal : {A : Type 0} → Result A SessionFault → Type 0
 IsNoRefusal result = OnRefusal result ⊥

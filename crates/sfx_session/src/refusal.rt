@@ -1,9 +1,12 @@
-ghost use Rattle.std.specs.Prelude.{◌≡◌, ◌≤◌, ◌↔◌, ℕ, [], IfOk, IsErrOf};
+ghost use Rattle.std.specs.Prelude.{◌≡◌, ◌≤◌, ◌↔◌, ℕ, [], IfOk, OnOk, IsErrOf};
+ghost use Rattle.sfx_knowledge.specs.Forgotten.{AreForgets};
+ghost use Rattle.sfx_model.specs.Acting.{IsOrderly, TakePart};
 ghost use Rattle.sfx_model.specs.Batch.{mode_of};
 ghost use Rattle.sfx_model.specs.Knowing.{laid_known, most_known};
+ghost use Rattle.sfx_model.specs.World.{World};
 ghost use Rattle.sfx_provider.specs.Head.{head_of};
 ghost use Rattle.sfx_session.specs.Fault.{HasCauses};
-ghost use Rattle.sfx_session.specs.Refusals.{IsNoRefusal, Refuses, refusal_of};
+ghost use Rattle.sfx_session.specs.Refusals.{IsNoRefusal, IsNotAhead, Refuses, refusal_of};
 
 use crate::SessionFault;
 use sfx_ids::ReplicaId;
@@ -19,6 +22,8 @@ pub(crate) fn refuse<const U: usize, P: Provider<U>, Q: Provider<U>>(
     destination: &mut Q,
 ) -> Result<(), SessionFault>
     ensures refused { Refuses result (refusal_of U (P.state source.old) (Q.state destination.old)) }
+    ensures orderly { OnOk result (IsOrderly U (P.state source.old) × IsOrderly U (Q.state destination.old)) }
+    ensures not_ahead { (w : World) → TakePart w U (P.state source.old) (Q.state destination.old) → IsNotAhead result }
     ensures same { IsErrOf result SessionFault.SameReplica ↔ ((P.state source.old).id ≡ (Q.state destination.old).id) }
     ensures source { P.state source.new ≡ P.state source.old }
     ensures source_kept { P.kept source.new ≡ P.kept source.old }
@@ -31,7 +36,6 @@ pub(crate) fn refuse<const U: usize, P: Provider<U>, Q: Provider<U>>(
     if source.id() == destination.id() {
         return Err(SessionFault::SameReplica);
     }
-    destination.keeps();
     let (from, to) = heads(alloc, source, destination)?;
     let tick = most(&from.knowledge, &from.forgotten, &to.id);
     if tick > to.clock {
@@ -54,6 +58,7 @@ fn heads<const U: usize, P: Provider<U>, Q: Provider<U>>(
 ) -> Result<(Head<U>, Head<U>), SessionFault>
     ensures source_value { IfOk result (λ heads. heads.0 ≡ head_of U (P.state source.old)) }
     ensures value { IfOk result (λ heads. heads.1 ≡ head_of U (Q.state destination.old)) }
+    ensures orderly { OnOk result (IsOrderly U (P.state source.old) × IsOrderly U (Q.state destination.old)) }
     ensures fault_alone { IsNoRefusal result }
     ensures source { P.state source.new ≡ P.state source.old }
     ensures source_kept { P.kept source.new ≡ P.kept source.old }
@@ -63,15 +68,28 @@ fn heads<const U: usize, P: Provider<U>, Q: Provider<U>>(
     ensures came { Q.came destination.old destination.new [] }
     ensures cause { HasCauses (P.faults source.old) (P.faults source.new) (Q.faults destination.old) (Q.faults destination.new) result }
 {
+    source.keeps();
+    destination.keeps();
     match source.head(alloc) {
         Ok(from) => match destination.head(alloc) {
-            Ok(to) => Ok((from, to)),
+            Ok(to) => {
+                keeps_form(&from);
+                keeps_form(&to);
+                Ok((from, to))
+            }
             Err(ProviderFault::Failed) => Err(SessionFault::Destination),
             Err(ProviderFault::Memory) => Err(SessionFault::Memory),
         },
         Err(ProviderFault::Failed) => Err(SessionFault::Source),
         Err(ProviderFault::Memory) => Err(SessionFault::Memory),
     }
+}
+
+/// Does nothing. What the replica has forgotten stands in its one form.
+fn keeps_form<const U: usize>(head: &Head<U>)
+    ensures { AreForgets head.now.forgotten }
+{
+    let _in_form = head.forgotten.vector();
 }
 
 /// The greatest tick of the replica that is known or forgotten.

@@ -1,17 +1,20 @@
 ghost use Rattle.std.specs.Prelude.{◌≡◌, ◌≤◌, ◌↔◌, ℕ, [], Some, None, IfOk, IfSome, OnOk, OnErr, IsErrOf, IsOkUnless};
 ghost use Rattle.sfx_model.specs.declared.mode.Mode.TheVariants.{Normal};
 ghost use Rattle.sfx_model.specs.declared.session_end.SessionEnd.TheVariants.{Done};
+ghost use Rattle.sfx_model.specs.Acting.{DeedsActIn, TakePart};
 ghost use Rattle.sfx_model.specs.Batch.{batch_from};
+ghost use Rattle.sfx_model.specs.Deeds.{session_deeds};
 ghost use Rattle.sfx_model.specs.Knowing.{ahead_of, laid_known};
 ghost use Rattle.sfx_model.specs.Moments.{committed, stops};
 ghost use Rattle.sfx_model.specs.Rules.{skip_rules};
 ghost use Rattle.sfx_model.specs.Session.{applied, applied_batch};
 ghost use Rattle.sfx_model.specs.Sets.{Has};
+ghost use Rattle.sfx_model.specs.World.{World};
 ghost use Rattle.sfx_outside.specs.Fault.{HasRisen};
 ghost use Rattle.sfx_provider.specs.Course.{CameInPart};
 ghost use Rattle.sfx_segments.specs.Segments.{IsPlace};
 ghost use Rattle.sfx_session.specs.Fault.{HasCauses};
-ghost use Rattle.sfx_session.specs.Refusals.{IsNoRefusal, OnRefusal, Refuses, refusal_of};
+ghost use Rattle.sfx_session.specs.Refusals.{IsNoRefusal, IsNotAhead, OnRefusal, Refuses, refusal_of};
 ghost use Rattle.sfx_session.specs.Report.{report_of, skipping};
 ghost use Rattle.sfx_session.specs.Travel.{arrival, due_batch, due_outcome, travelled};
 
@@ -31,6 +34,11 @@ use std::alloc::Global;
 /// Entries are committed in groups of `group`. With a `cut` the session ends after so many entries.
 ///
 /// The source stays as it is, whatever is answered.
+///
+/// In a well-formed world of replicas of which source and destination are two, and each represents its site, a
+/// session that gave a report did deeds that may happen there one after another, and the world after them is
+/// well-formed. There the source still represents its site, and so does the destination as it is now, with its
+/// lists in order and live names that do not clash. No session in such a world is refused with `Ahead`.
 ///
 /// # Errors
 /// `SameReplica`, `Ahead` and `NotBuilt`, in this order and before anything changes: source and destination
@@ -69,6 +77,10 @@ pub fn session<const U: usize, P: Provider<U>, Q: Provider<U>>(
         ¬ HasRisen (P.faults source.old) (P.faults source.new) → ¬ HasRisen (Q.faults destination.old) (Q.faults destination.new) →
         IsOkUnless result SessionFault.Memory }
     ensures done { cut ≡ None → IfOk result (λ r. r.end ≡ Done) }
+    ensures acts { OnOk result ((w : World) → TakePart w U (P.state source.old) (Q.state destination.old) →
+        DeedsActIn w (session_deeds U (P.state source.old) (Q.state destination.old) skip_rules size cut)
+        (P.state source.old) (Q.state destination.old).id (Q.state destination.new)) }
+    ensures not_ahead { (w : World) → TakePart w U (P.state source.old) (Q.state destination.old) → IsNotAhead result }
 {
     refuse(alloc, source, destination)?;
     let mut travel = Travel::new(alloc, cut);
@@ -99,6 +111,7 @@ fn one_batch<const U: usize, P: Provider<U>, Q: Provider<U>>(
     ensures travel { let o = due_outcome U (P.state source.old) Normal size (Q.state destination.old) travel.old in
         OnOk result (travel.new ≡ travelled (due_batch U (P.state source.old) Normal size (Q.state destination.old) travel.old) (applied_batch o) travel.old) }
     ensures state { OnOk result (Q.state destination.new ≡ (due_outcome U (P.state source.old) Normal size (Q.state destination.old) travel.old).member) }
+    ensures ahead { OnOk result (ahead_of (Q.state destination.new) (laid_known U (P.state source.old)) (P.state source.old).forgotten ≡ None) }
     ensures told { OnOk result (IfSome (Q.kept destination.new) (λ k. k ≡ Q.state destination.new)) }
     ensures came { OnOk result (Q.came destination.old destination.new (committed group (due_outcome U (P.state source.old) Normal size (Q.state destination.old) travel.old).moments)) }
     ensures fault { OnErr result (CameInPart Q.came Q.broke destination.old destination.new (committed group (due_outcome U (P.state source.old) Normal size (Q.state destination.old) travel.old).moments)) }

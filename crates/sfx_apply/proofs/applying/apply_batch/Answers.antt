@@ -1,36 +1,32 @@
-use Rattle.std.proofs.Common.{ap, lit<}
-use Rattle.sfx_model.specs.Batch.{Batch}
-use Rattle.sfx_provider.specs.Head.{HeadData}
-use Rattle.sfx_apply.specs.Turns.{WorkData}
-use Rattle.sfx_apply.proofs.Greatest.{behind_clock}
-use Rattle.sfx_apply.proofs.Looping.{batch_fault, told_still, work_read}
+use Rattle.std.proofs.lemmas.Result.{err_from_is_err_and}
+use Rattle.sfx_apply.proofs.Bringing.{brought_acts, read_state}
+use Rattle.sfx_apply.proofs.Looping.{batch_fault}
 use Rattle.sfx_apply.proofs.applying.apply_batch.Goals as goal
 
-pub apply_changes-requires : goal.apply_changes-requires
-apply_changes-requires g c =
+pub returns-in_err-work-clause-not_ahead : goal.returns-in_err-work-clause-not_ahead
+returns-in_err-work-clause-not_ahead g c =
+    let exit = err_from_is_err_and c.from_residual.result c.from_residual.ensures.1 in
+    rw (exit.1, exit.2) c.in_err-work.ensures.not_ahead
+
+pub returns-in-Ok-clause-acts : goal.returns-in-Ok-clause-acts
+returns-in-Ok-clause-acts g c =
     let p = g.P.Provider in
     let m = p.state c.args.provider.now in
-    let n = p.state c.head.new.self in
-    let b = c.args.batch.now in
-    let no_more = behind_clock g.row.U c.head-2.inside.id c.head-2.inside.clock c.most_known-tick.result c.batch.inside.made_with c.batch.inside.forgotten m n b c.in-Ok.head
-    c.keeps.ensures.batch c.in-Ok.ensures.value c.in-Ok.ensures.state (ap (λ (h : HeadData). h.id) c.head-2.view_is) (ap (λ (h : HeadData). h.clock) c.head-2.view_is)
-    (ap (λ (x : Batch). x.made_with) c.batch.view_is) (ap (λ (x : Batch). x.forgotten) c.batch.view_is) c.most_known-tick.ensures c.if-tick-clock.false in
-    let begun = work_read g.row.U m n c.in-Ok.head c.begin.result c.args.budget c.begin.ensures c.in-Ok.ensures.value c.in-Ok.ensures.state in
-    let told = told_still (p.kept c.head.new.self) (p.kept c.args.provider.now) n m c.in-Ok.ensures.kept c.in-Ok.ensures.state c.requires.told in (
-      lit< tt,
-      (lit< tt, (lit< tt, (told, (c.requires.normal, (no_more, (c.requires.group, begun)))))),
-    )
+    let is = read_state g.row.U m (p.state c.begin.new.provider) (p.state c.apply_changes.new.provider) c.args.batch.now c.in_ok-work.work.budget c.args.budget
+    c.in_ok-work.ensures.untouched.0 c.in_ok-work.ensures.budget c.in-Ok.ensures.state in
+    λ w source brings.
+    brought_acts w g.row.U source m (p.state c.apply_changes.new.provider) c.args.batch.now c.args.budget c.in_ok-work.ensures.orderly is brings
 
-pub returns-in-Err-Failed-apply_changes-clause-fault : goal.returns-in-Err-Failed-apply_changes-clause-fault
-returns-in-Err-Failed-apply_changes-clause-fault g c =
+pub returns-in-Err-Failed-clause-fault : goal.returns-in-Err-Failed-clause-fault
+returns-in-Err-Failed-clause-fault g c =
     let p = g.P.Provider in
-    batch_fault p.came p.broke c.args.provider.now c.head.new.self c.apply_changes.new.provider g.row.U c.args.batch.now c.args.group c.begin.result.budget c.args.budget
-    (p.state c.head.new.self) (p.state c.args.provider.now) g.met.P.Provider.came_on c.in-Ok.ensures.came c.in-Ok.ensures.state
-    (ap (λ (w : WorkData). w.budget) c.begin.ensures) c.in-Err-Failed-apply_changes.ensures.fault
+    let read = c.in_ok-work.ensures.untouched in
+    batch_fault p.came p.broke c.args.provider.now c.begin.new.provider c.apply_changes.new.provider g.row.U c.args.batch.now c.args.group c.in_ok-work.work.budget c.args.budget
+    (p.state c.begin.new.provider) (p.state c.args.provider.now) g.met.P.Provider.came_on read.2 read.0 c.in_ok-work.ensures.budget c.in-Err-Failed.ensures.fault
 
-pub returns-in-Err-Memory-apply_changes-clause-fault : goal.returns-in-Err-Memory-apply_changes-clause-fault
-returns-in-Err-Memory-apply_changes-clause-fault g c =
+pub returns-in-Err-Memory-clause-fault : goal.returns-in-Err-Memory-clause-fault
+returns-in-Err-Memory-clause-fault g c =
     let p = g.P.Provider in
-    batch_fault p.came p.broke c.args.provider.now c.head.new.self c.apply_changes.new.provider g.row.U c.args.batch.now c.args.group c.begin.result.budget c.args.budget
-    (p.state c.head.new.self) (p.state c.args.provider.now) g.met.P.Provider.came_on c.in-Ok.ensures.came c.in-Ok.ensures.state
-    (ap (λ (w : WorkData). w.budget) c.begin.ensures) c.in-Err-Memory-apply_changes.ensures.fault
+    let read = c.in_ok-work.ensures.untouched in
+    batch_fault p.came p.broke c.args.provider.now c.begin.new.provider c.apply_changes.new.provider g.row.U c.args.batch.now c.args.group c.in_ok-work.work.budget c.args.budget
+    (p.state c.begin.new.provider) (p.state c.args.provider.now) g.met.P.Provider.came_on read.2 read.0 c.in_ok-work.ensures.budget c.in-Err-Memory.ensures.fault

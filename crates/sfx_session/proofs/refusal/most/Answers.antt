@@ -1,5 +1,5 @@
 use Rattle.std.proofs.Common.{◌∙◌, ap, max}
-use Rattle.sfx_session.proofs.Deciding.{most_known_is}
+use Rattle.sfx_apply.proofs.Greatest.{most_known_is}
 use Rattle.sfx_session.proofs.refusal.most.Goals as goal
 
 pub returns : goal.returns

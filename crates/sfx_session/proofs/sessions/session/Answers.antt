@@ -1,18 +1,20 @@
-use Rattle.std.proofs.Common.{◌≡◌, [], Some, None, ap, sym, refl, subst, length, ◌<◌, arith, ◌∙◌}
+use Rattle.std.proofs.Common.{◌≡◌, [], Some, None, ap, sym, refl, rules, subst, length, ◌<◌, arith, ◌∙◌}
 use Rattle.sfx_ids.specs.declared.cut.Cut.{Cut}
 use Rattle.sfx_model.specs.Readings.{items_from}
 use Rattle.sfx_model.specs.declared.mode.Mode.TheVariants.{Normal}
+use Rattle.sfx_model.specs.declared.session_end.SessionEnd.TheVariants.{Done}
 use Rattle.sfx_model.specs.Members.{Member}
 use Rattle.sfx_model.specs.Knowing.{ahead_of, laid_known}
 use Rattle.sfx_model.specs.Moments.{committed}
 use Rattle.sfx_model.specs.Session.{applied_batch, reduced}
 use Rattle.sfx_model.proofs.Bounds.{less}
-use Rattle.sfx_session.specs.Report.{ReportData, skipping}
+use Rattle.sfx_session.specs.Report.{ReportData, report_of, skipping}
 use Rattle.sfx_session.specs.Travel.{TravelData, arrival, due_batch, due_outcome, travelled}
+use Rattle.sfx_session.proofs.Acting.{session_acts}
 use Rattle.sfx_session.proofs.Answered.{on_err_always}
 use Rattle.sfx_session.proofs.Refusing.{free}
 use Rattle.sfx_session.proofs.Skipping.{ahead_stays, outcome_stays, session_done}
-use Rattle.sfx_session.proofs.Travels.{fault_on, goes_to_place, kept_on, travel_begins, travel_ends, travel_on}
+use Rattle.sfx_session.proofs.Travels.{fault_on, goes_to_place, kept_on, batch_ends, travel_begins, travel_on}
 use Rattle.sfx_session.proofs.sessions.session.Goals as goal
 
 pub batches-init : goal.batches-init
@@ -43,10 +45,10 @@ returns-in_err-end-clause-fault g c =
     let source = p.state c.args.source.now in
     let first = q.state c.args.destination.now in
     let i = c.batches.invariant in
-    on_err_always c.from_residual-in_err-end.result
-    (fault_on q.came q.broke c.args.destination.now c.batches.destination c.one_batch.new.destination g.row.U source Normal c.args.size c.args.group first
+    let part = fault_on q.came q.broke c.args.destination.now c.batches.destination c.one_batch.new.destination g.row.U source Normal c.args.size c.args.group first
     (skipping g.row.U source first c.args.size c.args.cut) (q.state c.batches.destination) c.batches.travel
-    g.met.Q.Provider.came_on i.travels (rw i.source at c.in_err-end.ensures.fault))
+    g.met.Q.Provider.came_on i.travels (rw i.source at c.in_err-end.ensures.fault) in
+    search (rules, on_err_always c.from_residual-in_err-end.result part)
 
 pub returns-in_err-end-clause-kept : goal.returns-in_err-end-clause-kept
 returns-in_err-end-clause-kept g c =
@@ -55,88 +57,85 @@ returns-in_err-end-clause-kept g c =
     let source = p.state c.args.source.now in
     let first = q.state c.args.destination.now in
     let i = c.batches.invariant in
-    on_err_always c.from_residual-in_err-end.result
-    (kept_on (q.came c.args.destination.now c.batches.destination) g.row.U source Normal c.args.size c.args.group first
+    let kept = kept_on (q.came c.args.destination.now c.batches.destination) g.row.U source Normal c.args.size c.args.group first
     (skipping g.row.U source first c.args.size c.args.cut) (q.state c.batches.destination) c.batches.travel (q.kept c.one_batch.new.destination)
-    i.travels (rw i.source at c.in_err-end.ensures.kept))
+    i.travels (rw i.source at c.in_err-end.ensures.kept) in
+    search (rules, on_err_always c.from_residual-in_err-end.result kept)
+
+pub returns-in_err-refuse-clause-not_ahead : goal.returns-in_err-refuse-clause-not_ahead
+returns-in_err-refuse-clause-not_ahead g c = λ w part.
+    search (rules, c.in_err-refuse.ensures.not_ahead w part)
 
 pub returns-in-Some-clause-report : goal.returns-in-Some-clause-report
 returns-in-Some-clause-report g c =
-    let p = g.P.Provider in
     let q = g.Q.Provider in
-    let source = p.state c.args.source.now in
+    let source = g.P.Provider.state c.args.source.now in
     let first = q.state c.args.destination.now in
-    let now = q.state c.batches.destination in
-    let t = c.batches.travel in
     let i = c.batches.invariant in
     let done = c.in_ok-end.ensures in
-    let o = due_outcome g.row.U source Normal c.args.size now t in
-    let is : arrival (due_batch g.row.U source Normal c.args.size now t) (applied_batch o) t ≡ Some c.in-Some.end =
-    rw i.source at (sym done.end ∙ c.in-Some.is) in
-    let ended = travel_ends (q.came c.args.destination.now c.batches.destination) (q.came c.args.destination.now c.one_batch.new.destination)
-    g.row.U source Normal c.args.size c.args.group first (skipping g.row.U source first c.args.size c.args.cut) now t c.in-Some.end i.travels is
-    (λ xs came. g.met.Q.Provider.came_on c.args.destination.now c.batches.destination c.one_batch.new.destination xs (committed c.args.group o.moments) came
-    (rw i.source at done.came)) in
-    let travel = rw i.source at done.travel in
+    let ended = batch_ends q.came c.args.destination.now c.batches.destination c.one_batch.new.destination
+    g.row.U source Normal c.args.size c.args.group first (skipping g.row.U source first c.args.size c.args.cut) (q.state c.batches.destination) c.batches.travel
+    (g.P.Provider.state c.batches.source) (q.state c.one_batch.new.destination) c.one_batch.new.travel c.in_ok-end.field-0 c.in-Some.end
+    g.met.Q.Provider.came_on i.travels i.source done.end c.in-Some.is done.travel done.state done.came in
     let free = free g.row.U source first c.in_ok-refuse.ensures.refused in
-    c.report.ensures ∙ rw (free.normal, ← ended.steps, ← ended.end_is, travel) refl
+    let all : c.report.result ≡ report_of g.row.U source first c.args.size c.args.cut = c.report.ensures ∙ rw (free.normal, ← ended.steps, ← ended.end_is) refl in
+    search (rules, all)
 
 pub returns-in-Some-clause-state : goal.returns-in-Some-clause-state
 returns-in-Some-clause-state g c =
-    let p = g.P.Provider in
     let q = g.Q.Provider in
-    let source = p.state c.args.source.now in
+    let source = g.P.Provider.state c.args.source.now in
     let first = q.state c.args.destination.now in
-    let now = q.state c.batches.destination in
-    let t = c.batches.travel in
     let i = c.batches.invariant in
     let done = c.in_ok-end.ensures in
-    let o = due_outcome g.row.U source Normal c.args.size now t in
-    let is : arrival (due_batch g.row.U source Normal c.args.size now t) (applied_batch o) t ≡ Some c.in-Some.end =
-    rw i.source at (sym done.end ∙ c.in-Some.is) in
-    let ended = travel_ends (q.came c.args.destination.now c.batches.destination) (q.came c.args.destination.now c.one_batch.new.destination)
-    g.row.U source Normal c.args.size c.args.group first (skipping g.row.U source first c.args.size c.args.cut) now t c.in-Some.end i.travels is
-    (λ xs came. g.met.Q.Provider.came_on c.args.destination.now c.batches.destination c.one_batch.new.destination xs (committed c.args.group o.moments) came
-    (rw i.source at done.came)) in
-    (rw i.source at done.state) ∙ ended.member
+    let ended = batch_ends q.came c.args.destination.now c.batches.destination c.one_batch.new.destination
+    g.row.U source Normal c.args.size c.args.group first (skipping g.row.U source first c.args.size c.args.cut) (q.state c.batches.destination) c.batches.travel
+    (g.P.Provider.state c.batches.source) (q.state c.one_batch.new.destination) c.one_batch.new.travel c.in_ok-end.field-0 c.in-Some.end
+    g.met.Q.Provider.came_on i.travels i.source done.end c.in-Some.is done.travel done.state done.came in
+    search (rules, ended.member)
 
 pub returns-in-Some-clause-came : goal.returns-in-Some-clause-came
 returns-in-Some-clause-came g c =
-    let p = g.P.Provider in
     let q = g.Q.Provider in
-    let source = p.state c.args.source.now in
+    let source = g.P.Provider.state c.args.source.now in
     let first = q.state c.args.destination.now in
-    let now = q.state c.batches.destination in
-    let t = c.batches.travel in
     let i = c.batches.invariant in
     let done = c.in_ok-end.ensures in
-    let o = due_outcome g.row.U source Normal c.args.size now t in
-    let is : arrival (due_batch g.row.U source Normal c.args.size now t) (applied_batch o) t ≡ Some c.in-Some.end =
-    rw i.source at (sym done.end ∙ c.in-Some.is) in
-    let ended = travel_ends (q.came c.args.destination.now c.batches.destination) (q.came c.args.destination.now c.one_batch.new.destination)
-    g.row.U source Normal c.args.size c.args.group first (skipping g.row.U source first c.args.size c.args.cut) now t c.in-Some.end i.travels is
-    (λ xs came. g.met.Q.Provider.came_on c.args.destination.now c.batches.destination c.one_batch.new.destination xs (committed c.args.group o.moments) came
-    (rw i.source at done.came)) in
-    ended.came
+    let ended = batch_ends q.came c.args.destination.now c.batches.destination c.one_batch.new.destination
+    g.row.U source Normal c.args.size c.args.group first (skipping g.row.U source first c.args.size c.args.cut) (q.state c.batches.destination) c.batches.travel
+    (g.P.Provider.state c.batches.source) (q.state c.one_batch.new.destination) c.one_batch.new.travel c.in_ok-end.field-0 c.in-Some.end
+    g.met.Q.Provider.came_on i.travels i.source done.end c.in-Some.is done.travel done.state done.came in
+    search (rules, ended.came)
 
 pub returns-in-Some-clause-done : goal.returns-in-Some-clause-done
-returns-in-Some-clause-done g c = λ none.
-    let p = g.P.Provider in
+returns-in-Some-clause-done g c =
     let q = g.Q.Provider in
-    let source = p.state c.args.source.now in
+    let source = g.P.Provider.state c.args.source.now in
     let first = q.state c.args.destination.now in
-    let now = q.state c.batches.destination in
-    let t = c.batches.travel in
     let i = c.batches.invariant in
     let done = c.in_ok-end.ensures in
-    let o = due_outcome g.row.U source Normal c.args.size now t in
-    let is : arrival (due_batch g.row.U source Normal c.args.size now t) (applied_batch o) t ≡ Some c.in-Some.end =
-    rw i.source at (sym done.end ∙ c.in-Some.is) in
-    let ended = travel_ends (q.came c.args.destination.now c.batches.destination) (q.came c.args.destination.now c.one_batch.new.destination)
-    g.row.U source Normal c.args.size c.args.group first (skipping g.row.U source first c.args.size c.args.cut) now t c.in-Some.end i.travels is
-    (λ xs came. g.met.Q.Provider.came_on c.args.destination.now c.batches.destination c.one_batch.new.destination xs (committed c.args.group o.moments) came
-    (rw i.source at done.came)) in
-    ap (λ (r : ReportData). r.end) c.report.ensures ∙ ended.end_is ∙ session_done g.row.U source first c.args.size c.args.cut none
+    let ended = batch_ends q.came c.args.destination.now c.batches.destination c.one_batch.new.destination
+    g.row.U source Normal c.args.size c.args.group first (skipping g.row.U source first c.args.size c.args.cut) (q.state c.batches.destination) c.batches.travel
+    (g.P.Provider.state c.batches.source) (q.state c.one_batch.new.destination) c.one_batch.new.travel c.in_ok-end.field-0 c.in-Some.end
+    g.met.Q.Provider.came_on i.travels i.source done.end c.in-Some.is done.travel done.state done.came in
+    let done : c.args.cut ≡ None → c.report.result.end ≡ Done =
+    λ none. ap (λ (r : ReportData). r.end) c.report.ensures ∙ ended.end_is ∙ session_done g.row.U source first c.args.size c.args.cut none in
+    search (rules, done)
+
+pub returns-in-Some-clause-acts : goal.returns-in-Some-clause-acts
+returns-in-Some-clause-acts g c =
+    let q = g.Q.Provider in
+    let source = g.P.Provider.state c.args.source.now in
+    let first = q.state c.args.destination.now in
+    let i = c.batches.invariant in
+    let done = c.in_ok-end.ensures in
+    let ended = batch_ends q.came c.args.destination.now c.batches.destination c.one_batch.new.destination
+    g.row.U source Normal c.args.size c.args.group first (skipping g.row.U source first c.args.size c.args.cut) (q.state c.batches.destination) c.batches.travel
+    (g.P.Provider.state c.batches.source) (q.state c.one_batch.new.destination) c.one_batch.new.travel c.in_ok-end.field-0 c.in-Some.end
+    g.met.Q.Provider.came_on i.travels i.source done.end c.in-Some.is done.travel done.state done.came in
+    let orderly = c.in_ok-refuse.ensures.orderly in
+    let acts = session_acts g.row.U source first (q.state c.one_batch.new.destination) c.args.size c.args.cut orderly.0 orderly.1 c.requires.size ended.member in
+    search (rules, acts)
 
 pub batches-smaller : goal.batches-smaller
 batches-smaller g c =
@@ -178,7 +177,7 @@ batches-preserved g c =
     let high = i.faults in record {
       travels = rw (travel, state) travels;
       place = rw travel (goes_to_place b (applied_batch o) t is);
-      ahead = ap (λ (m : Member). ahead_of m (laid_known g.row.U source) source.forgotten) state ∙ (ahead_stays now o.member (laid_known g.row.U source) source.forgotten (outcome_stays g.row.U source Normal c.args.size now t) ∙ i.ahead);
+      ahead = subst (λ (s : Member). ahead_of (q.state c.one_batch.new.destination) (laid_known g.row.U s) s.forgotten ≡ None) i.source done.ahead;
       told = done.told;
       source = done.source ∙ i.source;
       source_kept = done.source_kept ∙ i.source_kept;

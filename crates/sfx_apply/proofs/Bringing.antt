@@ -1,0 +1,62 @@
+-- What a batch does in a world, and that no replica of it is ahead, by the laws of the model.
+use Rattle.std.proofs.Common.{◌≡◌, ℕ, Option, Some, None, sym, ◌∙◌, ap, subst}
+use Rattle.sfx_knowledge.specs.Forgotten.{Forgets}
+use Rattle.sfx_knowledge.specs.Knowledge.{Known}
+use Rattle.sfx_model.specs.Acting.{Brings, DeedsActIn, IsDue, IsOrderly, KnowsForgotten}
+use Rattle.sfx_model.specs.Batch.{Batch}
+use Rattle.sfx_model.specs.Deeds.{batch_deeds}
+use Rattle.sfx_model.specs.Knowing.{ahead_of, laid_known}
+use Rattle.sfx_model.specs.Members.{Member}
+use Rattle.sfx_model.specs.Rules.{skip_rules}
+use Rattle.sfx_model.specs.Session.{applied}
+use Rattle.sfx_model.specs.World.{World}
+use Rattle.sfx_model.proofs.Concluding.{batch_acts}
+use Rattle.sfx_model.proofs.Due.{due_from}
+use Rattle.sfx_model.proofs.Most.{none_ahead}
+
+-- A batch that a source brings acts in the world, and the destination is then as the batch has it.
+pub brought_acts :
+    (w : World) (units : ℕ) (source m n : Member) (b : Batch) (budget : Option ℕ)
+    → IsOrderly units m → n ≡ (applied units b skip_rules budget m).member
+    → Brings w units source m b → DeedsActIn w (batch_deeds units b skip_rules budget m) source m.id n
+brought_acts w units source m n b budget orderly is brings =
+    let part = brings.part in
+    let law : (k : ℕ) → w.units ≡ k → IsOrderly k source → IsOrderly k m → IsDue k source m brings.size b → KnowsForgotten k b m
+    → DeedsActIn w (batch_deeds k b skip_rules budget m) source m.id (applied k b skip_rules budget m).member =
+    λ k same. subst
+    (λ (u : ℕ). IsOrderly u source → IsOrderly u m → IsDue u source m brings.size b → KnowsForgotten u b m
+    → DeedsActIn w (batch_deeds u b skip_rules budget m) source m.id (applied u b skip_rules budget m).member) same
+    (λ theirs ours due knows. batch_acts w source m b skip_rules brings.size budget part.well_formed part.apart part.source_stands part.stands
+    theirs ours brings.some due knows) in
+    subst (λ (x : Member). DeedsActIn w (batch_deeds units b skip_rules budget m) source m.id x) (sym is)
+    (law units part.units_are brings.orderly orderly brings.due brings.knows)
+
+-- The destination of a batch that a source brings is not ahead.
+pub brought_behind :
+    (w : World) (units : ℕ) (source m : Member) (b : Batch) → Brings w units source m b → ahead_of m b.made_with b.forgotten ≡ None
+brought_behind w units source m b brings =
+    let part = brings.part in
+    let from = due_from units source b.mode brings.size m b.from in
+    let known : b.made_with ≡ laid_known units source = ap (λ (x : Batch). x.made_with) brings.due ∙ from.made_with in
+    let forgotten : b.forgotten ≡ source.forgotten = ap (λ (x : Batch). x.forgotten) brings.due ∙ from.forgotten in
+    let theirs : IsOrderly w.units source = subst (λ (u : ℕ). IsOrderly u source) (sym part.units_are) brings.orderly in
+    let none : ahead_of m (laid_known units source) source.forgotten ≡ None =
+    subst (λ (u : ℕ). ahead_of m (laid_known u source) source.forgotten ≡ None) part.units_are
+    (none_ahead w source m part.source_stands part.stands theirs) in
+    ap (λ (x : Known). ahead_of m x b.forgotten) known ∙ (ap (λ (x : Forgets). ahead_of m (laid_known units source) x) forgotten ∙ none)
+
+-- So it is not found to be.
+pub brought_not_ahead :
+    (w : World) (units tick : ℕ) (source m : Member) (b : Batch) → ahead_of m b.made_with b.forgotten ≡ Some tick
+    → Brings w units source m b → ⊥
+brought_not_ahead w units tick source m b ahead brings = no_tick (sym ahead ∙ brought_behind w units source m b brings)
+  where
+    no_tick : Some tick ≡ None → ⊥
+    no_tick e = cc
+
+-- The state that comes of the batch, by what is read of the replica before.
+pub read_state :
+    (units : ℕ) (m read after : Member) (b : Batch) (left budget : Option ℕ) → read ≡ m → left ≡ budget
+    → after ≡ (applied units b skip_rules left read).member → after ≡ (applied units b skip_rules budget m).member
+read_state units m read after b left budget same same_budget is =
+    is ∙ (ap (λ (o : Option ℕ). (applied units b skip_rules o read).member) same_budget ∙ ap (λ (x : Member). (applied units b skip_rules budget x).member) same)

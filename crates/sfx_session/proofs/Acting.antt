@@ -1,0 +1,57 @@
+-- What a session does in a world of replicas, and that the source is ahead of the destination in none.
+use Rattle.std.proofs.Common.{◌≡◌, ℕ, ◌<◌, ◌≤◌, Bool, true, false, if◌then◌else◌, nat_lt, arith, refl, sym, ap, subst, ◌∙◌, Option, Some, None}
+use Rattle.std.proofs.lemmas.Bool.Decides.{nat_tests}
+use Rattle.sfx_model.specs.Acting.{DeedsActIn, IsOrderly, TakePart}
+use Rattle.sfx_model.specs.Deeds.{session_deeds}
+use Rattle.sfx_model.specs.Knowing.{ahead_of, laid_known, most_known}
+use Rattle.sfx_model.specs.Members.{Member}
+use Rattle.sfx_model.specs.Rules.{skip_rules}
+use Rattle.sfx_model.specs.World.{World}
+use Rattle.sfx_model.proofs.Concluding.{whole_session_acts}
+use Rattle.sfx_model.proofs.Most.{none_ahead}
+use Rattle.sfx_provider.specs.Head.{HeadData, head_of}
+use Rattle.sfx_session.specs.Report.{skipping}
+
+-- a session between orderly members acts in each world of which they are two replicas
+pub session_acts :
+    (units : ℕ) (source first now : Member) (size : ℕ) (cut : Option ℕ)
+    → IsOrderly units source → IsOrderly units first → 1 ≤ size
+    → now ≡ (skipping units source first size cut).course.member
+    → (w : World) → TakePart w units source first
+    → DeedsActIn w (session_deeds units source first skip_rules size cut) source first.id now
+session_acts units source first now size cut theirs ours some is w part =
+    subst (λ (m : Member). DeedsActIn w (session_deeds units source first skip_rules size cut) source first.id m) (sym is)
+    (subst
+    (λ (u : ℕ). IsOrderly u source → IsOrderly u first → 1 ≤ size
+    → DeedsActIn w (session_deeds u source first skip_rules size cut) source first.id (skipping u source first size cut).course.member)
+    part.units_are
+    (whole_session_acts w source first skip_rules size cut part.well_formed part.apart part.source_stands part.stands)
+    theirs ours some)
+
+-- there the source knows and has forgotten no more of the destination than this one's clock tells
+within_clock : (w : World) (units : ℕ) (source destination : Member) → IsOrderly units source → TakePart w units source destination
+    → most_known destination.id (laid_known units source) source.forgotten ≤ destination.clock
+within_clock w units source destination theirs part =
+    by_test (nat_lt destination.clock most) refl
+    (subst (λ (u : ℕ). IsOrderly u source → ahead_of destination (laid_known u source) source.forgotten ≡ None) part.units_are
+    (none_ahead w source destination part.source_stands part.stands) theirs)
+  where
+    most : ℕ
+    most = most_known destination.id (laid_known units source) source.forgotten
+
+    by_test : (b : Bool) → nat_lt destination.clock most ≡ b → (if b then Some most else None) ≡ None → most ≤ destination.clock
+    by_test true is none = absurd (cc)
+    by_test false is none = grind (arith, nat_tests, is)
+
+-- so their heads never tell that it is ahead
+pub never_ahead : (w : World) (units tick : ℕ) (source destination : Member) (from to : HeadData)
+    → IsOrderly units source → from ≡ head_of units source → to ≡ head_of units destination
+    → tick ≡ most_known to.id from.knowledge from.forgotten → to.clock < tick
+    → TakePart w units source destination → ⊥
+never_ahead w units tick source destination from to theirs from_is to_is most_is ahead part =
+    let within = within_clock w units source destination theirs part in
+    let most : tick ≡ most_known destination.id (laid_known units source) source.forgotten =
+    most_is ∙ ap (λ (h : HeadData). most_known to.id h.knowledge h.forgotten) from_is
+    ∙ ap (λ (h : HeadData). most_known h.id (laid_known units source) source.forgotten) to_is in
+    let clock : to.clock ≡ destination.clock = ap (λ (h : HeadData). h.clock) to_is in
+    omega (arith, within, most, clock, ahead)
