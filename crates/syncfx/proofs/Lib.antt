@@ -6,3 +6,6 @@ pub mod Editing
 pub mod Comparing
 pub mod Listings
 pub mod Joining
+pub mod Sessions
+pub mod Orderly
+pub mod NotAhead

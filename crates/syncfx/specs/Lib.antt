@@ -1,5 +1,6 @@
 pub mod Listing
 pub mod Comparing
+pub mod Report
 pub mod Reply
 pub mod Members
 pub mod Turn

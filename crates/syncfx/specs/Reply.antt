@@ -3,10 +3,14 @@ use Rattle.std.specs.Prelude.{Bool, true, false, ℕ, List, ◌++◌, codes, dec
 use Rattle.sfx_ids.specs.Text.{item_text, version_text}
 use Rattle.sfx_replica.specs.declared.edit_fault.EditFault.{EditFault}
 use Rattle.sfx_replica.specs.declared.edit_fault.EditFault.TheVariants as faults
+use Rattle.sfx_model.specs.declared.session_end.SessionEnd.{SessionEnd}
+use Rattle.sfx_model.specs.declared.session_end.SessionEnd.TheVariants as ends
+use Rattle.sfx_session.specs.declared.session_fault.SessionFault.{SessionFault}
+use Rattle.sfx_session.specs.declared.session_fault.SessionFault.TheVariants as session_faults
 use Rattle.syncfx.specs.declared.reason.Reason.{Reason}
-use Rattle.syncfx.specs.declared.reason.Reason.TheVariants.{Syntax, NotBuilt, BadUnits, UnitsSet, NoUnits, NameTaken, IdTaken, NoReplica, BadCount, Edit}
+use Rattle.syncfx.specs.declared.reason.Reason.TheVariants.{Syntax, NotBuilt, BadUnits, UnitsSet, NoUnits, NameTaken, IdTaken, NoReplica, BadCount, Edit, Session}
 use Rattle.syncfx.specs.declared.reply.Reply.{Reply}
-use Rattle.syncfx.specs.declared.reply.Reply.TheVariants.{Done, Created, Changed, Known, Compared, Shown, Refused}
+use Rattle.syncfx.specs.declared.reply.Reply.TheVariants.{Done, Created, Changed, Known, Compared, Shown, Synced, Refused}
 
 -- A word that opens a parenthesis, with a number behind it, or two.
 abbrev pub with_number : List ℕ → ℕ → List ℕ
@@ -26,6 +30,16 @@ fault_text (faults.ClockFull clock) = with_number (codes "ClockFull(") clock
 fault_text faults.NotDeleted = codes "NotDeleted"
 fault_text faults.Memory = codes "Memory"
 
+-- The text of the refusal of a session. No line is refused for a provider that failed, which those in memory
+-- never do, or for want of memory.
+abbrev pub session_text : SessionFault → List ℕ
+session_text session_faults.SameReplica = codes "SameReplica"
+session_text (session_faults.Ahead tick clock) = with_numbers (codes "Ahead(") tick clock
+session_text session_faults.NotBuilt = codes "NotBuilt"
+session_text session_faults.Source = codes "Source"
+session_text session_faults.Destination = codes "Destination"
+session_text session_faults.Memory = codes "Memory"
+
 -- The text of a reason.
 abbrev pub reason_text : Reason → List ℕ
 reason_text (Syntax at) = with_number (codes "Syntax(") at
@@ -38,6 +52,7 @@ reason_text IdTaken = codes "IdTaken"
 reason_text (NoReplica name) = codes "NoReplica(" ++ name ++ codes ")"
 reason_text (BadCount given units) = with_numbers (codes "BadCount(") given units
 reason_text (Edit fault) = fault_text fault
+reason_text (Session fault) = session_text fault
 
 -- The refusal is want of memory.
 abbrev pub is_memory : EditFault → Bool
@@ -62,9 +77,16 @@ reply_text (Changed version) = codes "ok " ++ version_text version ++ codes "\n"
 reply_text (Known known) = codes "known=" ++ yes_or_no known ++ codes "\n"
 reply_text (Compared knowledge items) = codes "knowledge=" ++ yes_or_no knowledge ++ codes " items=" ++ yes_or_no items ++ codes "\n"
 reply_text (Shown text) = text
+reply_text (Synced text end) = text
 reply_text (Refused reason) = codes "no " ++ reason_text reason ++ codes "\n"
 
--- The reply refuses its line.
+-- The session ended for want of ticks.
+abbrev pub is_full : SessionEnd → Bool
+is_full ends.Done = false
+is_full ends.Cut = false
+is_full (ends.Full clock) = true
+
+-- The reply refuses its line, or the rest of it: so it does where a session ended for want of ticks.
 abbrev pub is_refusal : Reply → Bool
 is_refusal Done = false
 is_refusal (Created item) = false
@@ -72,4 +94,5 @@ is_refusal (Changed version) = false
 is_refusal (Known known) = false
 is_refusal (Compared knowledge items) = false
 is_refusal (Shown text) = false
+is_refusal (Synced text end) = is_full end
 is_refusal (Refused reason) = true

@@ -1,14 +1,25 @@
 -- What the lines of a script do: a reply, what happens in the world, and the state afterwards.
-use Rattle.std.specs.Prelude.{ℕ, Bool, ◌==◌, ◌||◌, if◌then◌else◌, Option, Some, None, Ok, Err, List, [], ◌∷◌, ◌++◌, length, nat_eq, nat_lt}
+use Rattle.std.specs.Prelude.{ℕ, Bool, true, false, not, ◌==◌, ◌||◌, ◌&&◌, if◌then◌else◌, Option, Some, None, Ok, Err, List, [], ◌∷◌, ◌++◌, length, nat_eq, nat_lt}
 use Rattle.sfx_ids.specs.declared.item_id.ItemId.{ItemId}
 use Rattle.sfx_ids.specs.declared.version.Version.{Version}
+use Rattle.sfx_model.specs.declared.clash_rule.ClashRule.{ClashRule}
+use Rattle.sfx_model.specs.declared.clash_rule.ClashRule.TheVariants as clashes
+use Rattle.sfx_model.specs.declared.keep.Keep.{Keep}
+use Rattle.sfx_model.specs.declared.keep.Keep.TheVariants as keeps
+use Rattle.sfx_model.specs.Deeds.{session_deeds}
 use Rattle.sfx_model.specs.Events.{Deed, Own, Units, Join, Make}
 use Rattle.sfx_model.specs.Members.{Member, NamedMember, Community, contains}
-use Rattle.sfx_model.specs.States.{created_contents, edited_contents, next_item, next_version, with_added, with_member}
+use Rattle.sfx_model.specs.Rules.{skip_rules}
+use Rattle.sfx_model.specs.Session.{SessionResult}
+use Rattle.sfx_model.specs.States.{created_contents, edited_contents, next_item, next_version, with_added, with_changed, with_member}
 use Rattle.sfx_replica.specs.declared.edit_fault.EditFault.{EditFault}
 use Rattle.sfx_replica.specs.declared.edit_fault.EditFault.TheVariants.{BadUnit}
 use Rattle.sfx_replica.specs.Edits.{created, edited, new_member}
 use Rattle.sfx_replica.specs.Refusals.{create_refusal, set_refusal}
+use Rattle.sfx_session.specs.declared.session_fault.SessionFault.{SessionFault}
+use Rattle.sfx_session.specs.Refusals.{refusal_of}
+use Rattle.sfx_session.specs.Report.{skipping}
+use Rattle.sfx_script.specs.declared.options.Options.{Options}
 use Rattle.sfx_script.specs.declared.line.Line.{Line}
 use Rattle.sfx_script.specs.declared.line.Line.TheVariants as lines
 use Rattle.sfx_script.specs.Reading.{Read, reading_of}
@@ -17,10 +28,11 @@ use Rattle.sfx_script.specs.Wrong.{place_of}
 use Rattle.syncfx.specs.Comparing.{hold_same, know_same}
 use Rattle.syncfx.specs.Listing.{listing}
 use Rattle.syncfx.specs.Members.{has_id, has_name, member_of}
+use Rattle.syncfx.specs.Report.{report_text}
 use Rattle.syncfx.specs.declared.reason.Reason.{Reason}
-use Rattle.syncfx.specs.declared.reason.Reason.TheVariants.{Syntax, NotBuilt, BadUnits, UnitsSet, NoUnits, NameTaken, IdTaken, NoReplica, BadCount, Edit}
+use Rattle.syncfx.specs.declared.reason.Reason.TheVariants.{Syntax, NotBuilt, BadUnits, UnitsSet, NoUnits, NameTaken, IdTaken, NoReplica, BadCount, Edit, Session}
 use Rattle.syncfx.specs.declared.reply.Reply.{Reply}
-use Rattle.syncfx.specs.declared.reply.Reply.TheVariants.{Done, Created, Changed, Known, Compared, Shown, Refused}
+use Rattle.syncfx.specs.declared.reply.Reply.TheVariants.{Done, Created, Changed, Known, Compared, Shown, Synced, Refused}
 
 -- What comes of one line.
 pub record Turn : Type 0 where
@@ -121,6 +133,51 @@ equal_turn c first second (Some m) None = refused c (NoReplica second)
 equal_turn c first second (Some m) (Some n) =
     answered c (Compared (know_same c.units m.member n.member) (hold_same m.member n.member))
 
+-- The session leaves alone what both sides changed.
+abbrev pub leaves_changes : Keep → Bool
+leaves_changes keeps.Source = false
+leaves_changes keeps.Destination = false
+leaves_changes keeps.Merge = false
+leaves_changes keeps.Skip = true
+
+-- The session leaves alone items whose names clash.
+abbrev pub leaves_names : ClashRule → Bool
+leaves_names clashes.Source = false
+leaves_names clashes.Destination = false
+leaves_names clashes.RenameSource = false
+leaves_names clashes.RenameDestination = false
+leaves_names clashes.Skip = true
+
+-- The session is one of those that are built: it leaves each conflict alone, and shows no bytes.
+abbrev pub is_built : Keep → ClashRule → Options → Bool
+is_built keep clash options = leaves_changes keep && (leaves_names clash && not options.trace)
+
+-- A session under these options from one member to another.
+abbrev pub session_under : ℕ → Member → Member → Options → SessionResult
+session_under units source destination options = skipping units source destination options.batch options.cut
+
+-- `sync` runs a session, where nothing refuses it, and tells what it did. The destination is then what the
+-- session made of it, and all others stay.
+abbrev pub sync_by : Community → NamedMember → NamedMember → Options → Option SessionFault → Turn
+sync_by c source destination options (Some fault) = refused c (Session fault)
+sync_by c source destination options None =
+    let result = session_under c.units source.member destination.member options in
+    record {
+      reply = Synced (report_text result.course.steps result.end) result.end;
+      deeds = session_deeds c.units source.member destination.member skip_rules options.batch options.cut;
+      community = with_changed destination.name result.course.member c;
+    }
+
+abbrev pub session_turn : Community → List ℕ → List ℕ → Option NamedMember → Option NamedMember → Options → Turn
+session_turn c source destination None other options = refused c (NoReplica source)
+session_turn c source destination (Some m) None options = refused c (NoReplica destination)
+session_turn c source destination (Some m) (Some n) options =
+    sync_by c m n options (refusal_of c.units m.member n.member)
+
+abbrev pub sync_turn : Community → List ℕ → List ℕ → Option NamedMember → Option NamedMember → Keep → ClashRule → Options → Turn
+sync_turn c source destination m n keep clash options =
+    if is_built keep clash options then session_turn c source destination m n options else refused c NotBuilt
+
 -- What comes of a line.
 abbrev pub turn_of : Community → Line → Turn
 turn_of c (lines.Units n) = units_turn c n
@@ -131,7 +188,8 @@ turn_of c (lines.Set replica item unit value) = set_turn c replica (member_of c.
 turn_of c (lines.Delete replica item) = refused c NotBuilt
 turn_of c (lines.Clean replica item) = refused c NotBuilt
 turn_of c (lines.Scan replica) = refused c NotBuilt
-turn_of c (lines.Sync source destination keep clash options) = refused c NotBuilt
+turn_of c (lines.Sync source destination keep clash options) =
+    sync_turn c source destination (member_of c.members source) (member_of c.members destination) keep clash options
 turn_of c (lines.Show replica) = show_turn c replica (member_of c.members replica)
 turn_of c (lines.Knows replica item unit version) = knows_turn c replica (member_of c.members replica) item unit version
 turn_of c (lines.Equal first second) =

@@ -1,19 +1,25 @@
-ghost use Rattle.std.specs.Prelude.{◌≡◌, false, nat_eq, slice_get, IfOk, IsSome, OnOk, OnErr, option_map};
+ghost use Rattle.std.specs.Prelude.{◌≡◌, ◌≢◌, false, nat_eq, slice_get, IfOk, IsSome, OnOk, OnErr, option_map};
 ghost use Rattle.std.specs.Option.{option_map_or};
 ghost use Rattle.sfx_model.specs.Members.{NamedMember};
+ghost use Rattle.sfx_script.specs.Limits.{AreWithinLimits, IsLimited};
 ghost use Rattle.syncfx.specs.declared.reply.Reply.TheVariants.{Refused};
-ghost use Rattle.syncfx.specs.declared.reason.Reason.TheVariants.{Edit, NoReplica};
+ghost use Rattle.syncfx.specs.declared.reason.Reason.TheVariants.{Edit, NoReplica, Session};
 ghost use Rattle.syncfx.specs.Reply.{is_memory};
+ghost use Rattle.syncfx.specs.Turn.{is_built, leaves_changes, leaves_names};
 
 use crate::listing::listing;
+use crate::meeting::meet;
 use crate::reason::Reason;
 use crate::reply::Reply;
+use crate::report::told;
 use indexmap::IndexMap;
 use sfx_ids::{ItemId, Memory, ReplicaId, UnitId, Version};
 use sfx_item::Value;
+use sfx_model::{ClashRule, Keep};
 use sfx_outside::Text;
 use sfx_replica::{EditFault, Replica};
-use sfx_script::{Line, LineFault, Values, parse_line};
+use sfx_script::{Line, LineFault, Options, Values, parse_line};
+use sfx_session::SessionFault;
 use std::alloc::Global;
 use std::marker::Model;
 
@@ -43,7 +49,8 @@ impl Model for Community {
 impl Community {
     ghost use Rattle.sfx_script.specs.Reading.{line_of};
     ghost use Rattle.syncfx.specs.Members.{has_id, member_of};
-    ghost use Rattle.syncfx.specs.Turn.{create_turn, empty_community, equal_turn, knows_turn, replica_turn, set_turn, show_turn, turn, turn_of, units_turn};
+    ghost use Rattle.sfx_model.specs.States.{with_changed};
+    ghost use Rattle.syncfx.specs.Turn.{create_turn, empty_community, equal_turn, knows_turn, replica_turn, session_turn, set_turn, show_turn, sync_turn, turn, turn_of, units_turn};
 
     /// No unit count is set, and there is no replica.
     pub fn new(alloc: Global) -> Self
@@ -73,6 +80,7 @@ impl Community {
 
     /// Runs a line that was read.
     fn answer(&mut self, alloc: Global, line: Line) -> Result<Reply, Memory>
+        requires limits { IsLimited line }
         ensures reply { IfOk result (λ reply. reply ≡ (turn_of self.old line).reply) }
         ensures after { OnOk result (self.new ≡ (turn_of self.old line).community) }
         ensures err { OnErr result (self.new ≡ self.old) }
@@ -95,11 +103,16 @@ impl Community {
                 version,
             } => Ok(self.knows(replica, &item, unit, &version)),
             Line::Equal { first, second } => self.equal(alloc, first, second),
-            Line::Files { .. }
-            | Line::Delete { .. }
-            | Line::Clean { .. }
-            | Line::Scan { .. }
-            | Line::Sync { .. } => Ok(Reply::Refused(Reason::NotBuilt)),
+            Line::Sync {
+                source,
+                destination,
+                keep,
+                clash,
+                options,
+            } => self.sync(alloc, source, destination, keep, clash, &options),
+            Line::Files { .. } | Line::Delete { .. } | Line::Clean { .. } | Line::Scan { .. } => Ok(
+                Reply::Refused(Reason::NotBuilt),
+            ),
         }
     }
 
@@ -230,6 +243,66 @@ impl Community {
         Ok(Reply::Compared { knowledge, items })
     }
 
+    fn sync(
+        &mut self,
+        alloc: Global,
+        source: Text,
+        destination: Text,
+        keep: Keep,
+        clash: ClashRule,
+        options: &Options,
+    ) -> Result<Reply, Memory>
+        requires limits { AreWithinLimits options.now }
+        ensures reply { IfOk result (λ reply. reply ≡ (sync_turn self.old source destination (member_of self.old.members source) (member_of self.old.members destination) keep clash options.now).reply) }
+        ensures after { OnOk result (self.new ≡ (sync_turn self.old source destination (member_of self.old.members source) (member_of self.old.members destination) keep clash options.now).community) }
+        ensures err { OnErr result (self.new ≡ self.old) }
+    {
+        if is_built(keep, clash, options) {
+            self.run_session(alloc, source, destination, options)
+        } else {
+            Ok(Reply::Refused(Reason::NotBuilt))
+        }
+    }
+
+    /// Runs a session that is built.
+    fn run_session(
+        &mut self,
+        alloc: Global,
+        source: Text,
+        destination: Text,
+        options: &Options,
+    ) -> Result<Reply, Memory>
+        requires limits { AreWithinLimits options.now }
+        ensures reply { IfOk result (λ reply. reply ≡ (session_turn self.old source destination (member_of self.old.members source) (member_of self.old.members destination) options.now).reply) }
+        ensures after { OnOk result (self.new ≡ (session_turn self.old source destination (member_of self.old.members source) (member_of self.old.members destination) options.now).community) }
+        ensures err { OnErr result (self.new ≡ self.old) }
+    {
+        let Some(from) = self.find(&source) else {
+            return Ok(no_replica(source));
+        };
+        let Some(to) = self.find(&destination) else {
+            return Ok(no_replica(destination));
+        };
+        match meet(alloc, from, to, options) {
+            Ok(met) => {
+                let report = told(alloc, &met.report)?;
+                let end = met.report.end;
+                self.put(&destination, met.destination);
+                Ok(Reply::Synced { report, end })
+            }
+            Err(fault) => session_refusal(fault),
+        }
+    }
+
+    /// Puts the replica in the place of the one with this name, where there is one.
+    fn put(&mut self, name: &Text, replica: Replica<UNITS>)
+        ensures { self.new ≡ with_changed name.now replica self.old }
+    {
+        if let Some(place) = self.members.get_index_of(name) {
+            self.members[place] = replica;
+        }
+    }
+
     /// The replica with this name.
     fn find(&self, name: &Text) -> Option<&Replica<UNITS>>
         ensures found { option_map (λ r. record { name = name.now; member = r.now }) result ≡ member_of self.now.members name.now }
@@ -261,4 +334,26 @@ fn is_memory(fault: &EditFault) -> bool
     ensures { result ≡ is_memory fault.now }
 {
     matches!(fault, EditFault::Memory)
+}
+
+/// The refusal of a line whose session is refused. Want of memory refuses no line.
+fn session_refusal(fault: SessionFault) -> Result<Reply, Memory>
+    requires source { fault ≢ SessionFault.Source }
+    requires destination { fault ≢ SessionFault.Destination }
+    ensures { IfOk result (λ reply. (reply ≡ Refused (Session fault)) × (fault ≢ SessionFault.Memory)) }
+{
+    match fault {
+        SessionFault::SameReplica | SessionFault::Ahead { .. } | SessionFault::NotBuilt => {
+            Ok(Reply::Refused(Reason::Session(fault)))
+        }
+        SessionFault::Source | SessionFault::Destination => unreachable!(),
+        SessionFault::Memory => Err(Memory),
+    }
+}
+
+/// Whether sessions under these rules and options are built.
+fn is_built(keep: Keep, clash: ClashRule, options: &Options) -> bool
+    ensures { result ≡ is_built keep clash options.now }
+{
+    keep == Keep::Skip && clash == ClashRule::Skip && !options.trace
 }

@@ -11,10 +11,14 @@ use std::{env, io};
 mod community;
 mod laws;
 mod listing;
+mod meeting;
 mod play;
 mod reason;
 mod reply;
+mod report;
 mod run;
+#[cfg(test)]
+mod session_tests;
 mod status;
 #[cfg(test)]
 mod tests;

@@ -1,10 +1,11 @@
 ghost use Rattle.std.specs.Prelude.{◌≡◌, ◌++◌, OnOk};
-ghost use Rattle.syncfx.specs.Reply.{fault_text, reason_text, with_number, with_numbers};
+ghost use Rattle.syncfx.specs.Reply.{fault_text, reason_text, session_text, with_number, with_numbers};
 
 use crate::text::{append, write_number};
 use sfx_ids::{Memory, write_item};
 use sfx_outside::Text;
 use sfx_replica::EditFault;
+use sfx_session::SessionFault;
 
 /// Why a line of a script is refused. Nothing has changed then.
 #[derive(Drop)]
@@ -29,6 +30,8 @@ pub enum Reason {
     BadCount { given: usize, units: usize },
     /// The replica refuses the edit.
     Edit(EditFault),
+    /// The session is refused.
+    Session(SessionFault),
 }
 
 impl Reason {
@@ -53,6 +56,7 @@ impl Reason {
                 write_with_numbers(out, b"BadCount(", *given as u64, *units as u64)
             }
             Reason::Edit(fault) => write_fault(out, fault),
+            Reason::Session(fault) => write_session_fault(out, fault),
         }
     }
 }
@@ -74,6 +78,20 @@ fn write_fault(out: &mut Vec<u8>, fault: &EditFault) -> Result<(), Memory>
         EditFault::ClockFull(clock) => write_with_number(out, b"ClockFull(", *clock),
         EditFault::NotDeleted => append(out, b"NotDeleted"),
         EditFault::Memory => append(out, b"Memory"),
+    }
+}
+
+/// Appends the text of the refusal of a session.
+fn write_session_fault(out: &mut Vec<u8>, fault: &SessionFault) -> Result<(), Memory>
+    ensures { OnOk result (out.new.items ≡ out.old.items ++ session_text fault.now) }
+{
+    match fault {
+        SessionFault::SameReplica => append(out, b"SameReplica"),
+        SessionFault::Ahead { tick, clock } => write_with_numbers(out, b"Ahead(", *tick, *clock),
+        SessionFault::NotBuilt => append(out, b"NotBuilt"),
+        SessionFault::Source => append(out, b"Source"),
+        SessionFault::Destination => append(out, b"Destination"),
+        SessionFault::Memory => append(out, b"Memory"),
     }
 }
 

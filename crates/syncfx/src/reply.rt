@@ -4,9 +4,10 @@ ghost use Rattle.syncfx.specs.Reply.{yes_or_no};
 use crate::reason::Reason;
 use crate::text::{append, newline};
 use sfx_ids::{ItemId, Memory, Version, write_item, write_version};
+use sfx_model::SessionEnd;
 use std::marker::Model;
 
-/// The text that shows a replica.
+/// A text of many lines, with their ends: it shows a replica, or tells what a session did.
 #[derive(Drop)]
 pub struct Listing {
     text: Vec<u8>,
@@ -49,6 +50,8 @@ pub enum Reply {
     Compared { knowledge: bool, items: bool },
     /// What the replica holds.
     Shown(Listing),
+    /// What the session did, batch by batch, and how it ended.
+    Synced { report: Listing, end: SessionEnd },
     /// The line is refused.
     Refused(Reason),
 }
@@ -56,11 +59,15 @@ pub enum Reply {
 impl Reply {
     ghost use Rattle.syncfx.specs.Reply.{is_refusal, reply_text};
 
-    /// Whether the line was refused.
+    /// Whether the line was refused, or its session ended for want of ticks.
     pub fn is_refusal(&self) -> bool
         ensures { result ≡ is_refusal self.now }
     {
-        matches!(self, Reply::Refused(_))
+        match self {
+            Reply::Refused(_) => true,
+            Reply::Synced { end, .. } => matches!(end, SessionEnd::Full(_)),
+            _ => false,
+        }
     }
 
     /// Appends the text of the reply. The one error is want of memory; a part may be appended then.
@@ -92,6 +99,7 @@ impl Reply {
                 newline(out)
             }
             Reply::Shown(listing) => append(out, listing.bytes()),
+            Reply::Synced { report, .. } => append(out, report.bytes()),
             Reply::Refused(reason) => {
                 append(out, b"no ")?;
                 reason.write(out)?;

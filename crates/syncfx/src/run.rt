@@ -4,7 +4,7 @@ ghost use Rattle.sfx_outside.specs.Sink.{Adds, AddsFront};
 ghost use Rattle.sfx_outside.specs.Source.{IsAtEnd};
 ghost use Rattle.sfx_model.specs.Members.{RepresentsWorld};
 ghost use Rattle.sfx_model.specs.World.{World, WellFormed};
-ghost use Rattle.syncfx.specs.History.{HasHappened};
+ghost use Rattle.syncfx.specs.History.{AreNotAhead, HasHappened};
 ghost use Rattle.syncfx.specs.Run.{has_refusal, is_play, played, played_text};
 ghost use Rattle.syncfx.specs.Turn.{empty_community};
 ghost use Rattle.syncfx.specs.Status.{HasBrokenOff, HasNotBegun, IsAnswered};
@@ -34,6 +34,9 @@ pub fn run<A: Source, B: Sink>(
     // What the script does happens in every world that the state at the start represents.
     ensures history { IsAnswered result → IfSome (A.left input.old) (λ script. (w : World) →
         WellFormed w → RepresentsWorld w empty_community → HasHappened w empty_community (played script)) }
+
+    // No session of a script is refused because its source knows more of the destination than that made.
+    ensures not_ahead { IsAnswered result → IfSome (A.left input.old) (λ script. AreNotAhead (played script).replies) }
 
     // When each other end comes.
     ensures usage { (result ≡ Status.Usage) ↔ (is_play (map string_bytes words.now.items) ≡ false) }

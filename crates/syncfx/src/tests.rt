@@ -9,13 +9,13 @@ use std::test::Fail;
 
 /// How a run ended, and what it wrote.
 #[derive(Drop)]
-struct Ran {
-    status: Status,
-    out: MemorySink,
+pub struct Ran {
+    pub status: Status,
+    pub out: MemorySink,
 }
 
 /// Runs the command with this script as its input, which comes in pieces; these reads of it fail.
-fn run_on(
+pub fn run_on(
     alloc: Global,
     words: &[&str],
     script: Vec<u8>,
@@ -112,11 +112,11 @@ const DIALOGUE: [(&str, &str); 38] = [
     ("replica A {c}", "no NameTaken"),
     ("replica C {a}", "no IdTaken"),
     ("delete A 1:{a}", "no NotBuilt"),
-    ("sync A B keep=skip clash=skip", "no NotBuilt"),
+    ("sync A B keep=merge clash=skip", "no NotBuilt"),
 ];
 
 /// The text with the ids that stand in it.
-fn with_ids(alloc: Global, text: &str) -> Result<String, AllocError> {
+pub fn with_ids(alloc: Global, text: &str) -> Result<String, AllocError> {
     let text = text.replace(alloc, "{a}", "00000000-0000-0000-0000-00000000000a")?;
     let text = text.replace(alloc, "{b}", "00000000-0000-0000-0000-00000000000b")?;
     text.replace(alloc, "{c}", "00000000-0000-0000-0000-00000000000c")

@@ -28,3 +28,11 @@ pub fn write_number(out: &mut Vec<u8>, number: u64) -> Result<(), Memory>
 {
     append(out, Buffer::new().format(number).as_bytes())
 }
+
+/// The same of a greater number.
+pub fn write_total(out: &mut Vec<u8>, number: u128) -> Result<(), Memory>
+    ensures ok { OnOk result (out.new.items ≡ out.old.items ++ decimal number) }
+    ensures err { OnErr result (out.new.items ≡ out.old.items) }
+{
+    append(out, Buffer::new().format(number).as_bytes())
+}

@@ -1,10 +1,10 @@
 use Rattle.std.proofs.Common.{◌≡◌, true, false, sym, ◌∙◌}
 use Rattle.sfx_model.specs.Members.{RepresentsWorld}
 use Rattle.sfx_model.specs.World.{World, WellFormed}
-use Rattle.syncfx.proofs.History.{turns_happen_lem}
+use Rattle.syncfx.proofs.History.{played_happens}
+use Rattle.syncfx.proofs.NotAhead.{played_not_ahead}
 use Rattle.syncfx.proofs.Running.{told, told_anyhow}
-use Rattle.syncfx.specs.History.{HasHappened}
-use Rattle.sfx_script.specs.Script.{lines_of}
+use Rattle.syncfx.specs.History.{AreNotAhead, HasHappened}
 use Rattle.syncfx.specs.Run.{has_refusal, played}
 use Rattle.syncfx.specs.Turn.{empty_community}
 use Rattle.syncfx.proofs.run.run.Goals as goal
@@ -22,9 +22,15 @@ returns-in-Ok-false-clause-done g c is =
 pub returns-in-Ok-true-clause-history : goal.returns-in-Ok-true-clause-history
 returns-in-Ok-true-clause-history g c is =
     told_anyhow (λ s. (w : World) → WellFormed w → RepresentsWorld w empty_community → HasHappened w empty_community (played s)) _
-    (λ s w ok rep. turns_happen_lem w empty_community (lines_of s) ok rep)
+    (λ s w ok rep. played_happens w s ok rep)
 
 pub returns-in-Ok-false-clause-history : goal.returns-in-Ok-false-clause-history
 returns-in-Ok-false-clause-history g c is =
     told_anyhow (λ s. (w : World) → WellFormed w → RepresentsWorld w empty_community → HasHappened w empty_community (played s)) _
-    (λ s w ok rep. turns_happen_lem w empty_community (lines_of s) ok rep)
+    (λ s w ok rep. played_happens w s ok rep)
+
+pub returns-in-Ok-true-clause-not_ahead : goal.returns-in-Ok-true-clause-not_ahead
+returns-in-Ok-true-clause-not_ahead g c is = told_anyhow (λ s. AreNotAhead (played s).replies) _ played_not_ahead
+
+pub returns-in-Ok-false-clause-not_ahead : goal.returns-in-Ok-false-clause-not_ahead
+returns-in-Ok-false-clause-not_ahead g c is = told_anyhow (λ s. AreNotAhead (played s).replies) _ played_not_ahead

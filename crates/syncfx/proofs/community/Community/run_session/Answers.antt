@@ -1,0 +1,43 @@
+use Rattle.std.proofs.Common.{Err, ap, refl, sym, ◌∙◌}
+use Rattle.syncfx.proofs.Sessions.{Meets, met_after, met_reply, unmet_after, unmet_reply}
+use Rattle.syncfx.proofs.community.Community.run_session.Goals as goal
+
+pub returns-in-Ok-clause-reply : goal.returns-in-Ok-clause-reply
+returns-in-Ok-clause-reply c =
+    let meets : Meets c.args.self.now c.args.source c.args.destination c.in-Some.from.now c.in-Some-find.to.now = record {
+      source_is = sym c.in-Some.ensures.found;
+      destination_is = sym c.in-Some-find.ensures.found;
+      units = c.in-Some.ensures.units refl;
+    } in
+    met_reply c.args.self.now c.args.source c.args.destination c.in-Some.from.now c.in-Some-find.to.now c.args.options.now c.in_ok-report-in-Ok.report
+    meets c.in-Ok.ensures.refused (ap (λ m. m.report) c.met.view_is) c.in-Ok.ensures.report c.in_ok-report-in-Ok.ensures
+
+pub returns-in-Ok-clause-after : goal.returns-in-Ok-clause-after
+returns-in-Ok-clause-after c =
+    let meets : Meets c.args.self.now c.args.source c.args.destination c.in-Some.from.now c.in-Some-find.to.now = record {
+      source_is = sym c.in-Some.ensures.found;
+      destination_is = sym c.in-Some-find.ensures.found;
+      units = c.in-Some.ensures.units refl;
+    } in
+    met_after c.args.self.now c.put.new.self c.args.source c.args.destination c.in-Some.from.now c.in-Some-find.to.now _ c.in-Ok.met.destination c.args.options.now
+    meets c.in-Ok.ensures.refused c.put.ensures (ap (λ m. m.destination) c.met.view_is) c.in-Ok.ensures.destination
+
+pub returns-clause-reply : goal.returns-clause-reply
+returns-clause-reply c =
+    let meets : Meets c.args.self.now c.args.source c.args.destination c.in-Some.from.now c.in-Some-find.to.now = record {
+      source_is = sym c.in-Some.ensures.found;
+      destination_is = sym c.in-Some-find.ensures.found;
+      units = c.in-Some.ensures.units refl;
+    } in
+    unmet_reply c.args.self.now c.args.source c.args.destination c.in-Some.from.now c.in-Some-find.to.now c.args.options.now c.in-Err.fault c.session_refusal.result
+    meets c.in-Err.ensures.refused (λ is. c.in-Err.ensures.source_stays (ap (λ f. Err f) is)) (λ is. c.in-Err.ensures.destination_stays (ap (λ f. Err f) is)) c.session_refusal.ensures
+
+pub returns-clause-after : goal.returns-clause-after
+returns-clause-after c =
+    let meets : Meets c.args.self.now c.args.source c.args.destination c.in-Some.from.now c.in-Some-find.to.now = record {
+      source_is = sym c.in-Some.ensures.found;
+      destination_is = sym c.in-Some-find.ensures.found;
+      units = c.in-Some.ensures.units refl;
+    } in
+    unmet_after c.args.self.now c.args.source c.args.destination c.in-Some.from.now c.in-Some-find.to.now c.args.options.now c.in-Err.fault c.session_refusal.result
+    meets c.in-Err.ensures.refused (λ is. c.in-Err.ensures.source_stays (ap (λ f. Err f) is)) (λ is. c.in-Err.ensures.destination_stays (ap (λ f. Err f) is)) c.session_refusal.ensures
