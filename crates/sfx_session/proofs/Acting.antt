@@ -1,5 +1,5 @@
 -- What a session does in a world of replicas, and that the source is ahead of the destination in none.
-use Rattle.std.proofs.Common.{◌≡◌, ℕ, ◌<◌, ◌≤◌, Bool, true, false, if◌then◌else◌, nat_lt, arith, refl, sym, ap, subst, ◌∙◌, Option, Some, None}
+use Rattle.std.proofs.Common.{◌≡◌, ℕ, ◌<◌, ◌≤◌, Bool, true, false, if◌then◌else◌, nat_lt, arith, refl, sym, subst, Option, Some, None}
 use Rattle.std.proofs.lemmas.Bool.Decides.{nat_tests}
 use Rattle.sfx_model.specs.Acting.{DeedsActIn, IsOrderly, TakePart}
 use Rattle.sfx_model.specs.Deeds.{session_deeds}
@@ -9,7 +9,6 @@ use Rattle.sfx_model.specs.Rules.{skip_rules}
 use Rattle.sfx_model.specs.World.{World}
 use Rattle.sfx_model.proofs.Concluding.{whole_session_acts}
 use Rattle.sfx_model.proofs.Most.{none_ahead}
-use Rattle.sfx_provider.specs.Head.{HeadData, head_of}
 use Rattle.sfx_session.specs.Report.{skipping}
 
 -- a session between orderly members acts in each world of which they are two replicas
@@ -43,15 +42,11 @@ within_clock w units source destination theirs part =
     by_test true is none = absurd (cc)
     by_test false is none = grind (arith, nat_tests, is)
 
--- so their heads never tell that it is ahead
-pub never_ahead : (w : World) (units tick : ℕ) (source destination : Member) (from to : HeadData)
-    → IsOrderly units source → from ≡ head_of units source → to ≡ head_of units destination
-    → tick ≡ most_known to.id from.knowledge from.forgotten → to.clock < tick
+-- so such a tick is never greater than its clock
+pub never_ahead : (w : World) (units tick clock : ℕ) (source destination : Member)
+    → IsOrderly units source
+    → tick ≡ most_known destination.id (laid_known units source) source.forgotten → clock ≡ destination.clock → clock < tick
     → TakePart w units source destination → ⊥
-never_ahead w units tick source destination from to theirs from_is to_is most_is ahead part =
+never_ahead w units tick clock source destination theirs most clock_is ahead part =
     let within = within_clock w units source destination theirs part in
-    let most : tick ≡ most_known destination.id (laid_known units source) source.forgotten =
-    most_is ∙ ap (λ (h : HeadData). most_known to.id h.knowledge h.forgotten) from_is
-    ∙ ap (λ (h : HeadData). most_known h.id (laid_known units source) source.forgotten) to_is in
-    let clock : to.clock ≡ destination.clock = ap (λ (h : HeadData). h.clock) to_is in
-    omega (arith, within, most, clock, ahead)
+    omega (arith, within, most, clock_is, ahead)

@@ -6,6 +6,7 @@ pub use session_fault::SessionFault;
 pub use sessions::session;
 pub use step::Step;
 
+mod heads;
 mod refusal;
 mod report;
 mod session_fault;

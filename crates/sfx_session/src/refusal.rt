@@ -1,18 +1,17 @@
 ghost use Rattle.std.specs.Prelude.{◌≡◌, ◌≤◌, ◌↔◌, ℕ, [], IfOk, OnOk, IsErrOf};
-ghost use Rattle.sfx_knowledge.specs.Forgotten.{AreForgets};
 ghost use Rattle.sfx_model.specs.Acting.{IsOrderly, TakePart};
 ghost use Rattle.sfx_model.specs.Batch.{mode_of};
 ghost use Rattle.sfx_model.specs.Knowing.{laid_known, most_known};
 ghost use Rattle.sfx_model.specs.World.{World};
-ghost use Rattle.sfx_provider.specs.Head.{head_of};
 ghost use Rattle.sfx_session.specs.Fault.{HasCauses};
 ghost use Rattle.sfx_session.specs.Refusals.{IsNoRefusal, IsNotAhead, Refuses, refusal_of};
 
 use crate::SessionFault;
+use crate::heads::{destination_head, source_head};
 use sfx_ids::ReplicaId;
 use sfx_knowledge::{Forgotten, Knowledge};
 use sfx_model::Mode;
-use sfx_provider::{Head, Provider, ProviderFault};
+use sfx_provider::Provider;
 use std::alloc::Global;
 
 /// Whether the session may begin; nothing changes.
@@ -36,28 +35,26 @@ pub(crate) fn refuse<const U: usize, P: Provider<U>, Q: Provider<U>>(
     if source.id() == destination.id() {
         return Err(SessionFault::SameReplica);
     }
-    let (from, to) = heads(alloc, source, destination)?;
-    let tick = most(&from.knowledge, &from.forgotten, &to.id);
-    if tick > to.clock {
-        return Err(SessionFault::Ahead {
-            tick,
-            clock: to.clock,
-        });
+    let (tick, clock, mode) = bearing(alloc, source, destination)?;
+    if tick > clock {
+        return Err(SessionFault::Ahead { tick, clock });
     }
-    match mode(&from.forgotten, &to.knowledge) {
+    match mode {
         Mode::Normal => Ok(()),
         Mode::Recover => Err(SessionFault::NotBuilt),
     }
 }
 
-/// The heads of source and destination.
-fn heads<const U: usize, P: Provider<U>, Q: Provider<U>>(
+/// What decides whether the session may begin: the greatest tick of the destination that the source knows or
+/// has forgotten, the destination's clock, and the mode of a session between them.
+fn bearing<const U: usize, P: Provider<U>, Q: Provider<U>>(
     alloc: Global,
     source: &mut P,
     destination: &mut Q,
-) -> Result<(Head<U>, Head<U>), SessionFault>
-    ensures source_value { IfOk result (λ heads. heads.0 ≡ head_of U (P.state source.old)) }
-    ensures value { IfOk result (λ heads. heads.1 ≡ head_of U (Q.state destination.old)) }
+) -> Result<(u64, u64, Mode), SessionFault>
+    ensures tick { IfOk result (λ b. b.0 ≡ most_known (Q.state destination.old).id (laid_known U (P.state source.old)) (P.state source.old).forgotten) }
+    ensures clock { IfOk result (λ b. b.1 ≡ (Q.state destination.old).clock) }
+    ensures mode { IfOk result (λ b. b.2 ≡ mode_of U (P.state source.old).forgotten (laid_known U (Q.state destination.old))) }
     ensures orderly { OnOk result (IsOrderly U (P.state source.old) × IsOrderly U (Q.state destination.old)) }
     ensures fault_alone { IsNoRefusal result }
     ensures source { P.state source.new ≡ P.state source.old }
@@ -68,28 +65,13 @@ fn heads<const U: usize, P: Provider<U>, Q: Provider<U>>(
     ensures came { Q.came destination.old destination.new [] }
     ensures cause { HasCauses (P.faults source.old) (P.faults source.new) (Q.faults destination.old) (Q.faults destination.new) result }
 {
-    source.keeps();
-    destination.keeps();
-    match source.head(alloc) {
-        Ok(from) => match destination.head(alloc) {
-            Ok(to) => {
-                keeps_form(&from);
-                keeps_form(&to);
-                Ok((from, to))
-            }
-            Err(ProviderFault::Failed) => Err(SessionFault::Destination),
-            Err(ProviderFault::Memory) => Err(SessionFault::Memory),
-        },
-        Err(ProviderFault::Failed) => Err(SessionFault::Source),
-        Err(ProviderFault::Memory) => Err(SessionFault::Memory),
-    }
-}
-
-/// Does nothing. What the replica has forgotten stands in its one form.
-fn keeps_form<const U: usize>(head: &Head<U>)
-    ensures { AreForgets head.now.forgotten }
-{
-    let _in_form = head.forgotten.vector();
+    let from = source_head(alloc, source)?;
+    let to = destination_head(alloc, destination)?;
+    Ok((
+        most(&from.knowledge, &from.forgotten, &to.id),
+        to.clock,
+        mode(&from.forgotten, &to.knowledge),
+    ))
 }
 
 /// The greatest tick of the replica that is known or forgotten.

@@ -18,6 +18,7 @@ ghost use Rattle.sfx_session.specs.Refusals.{IsNoRefusal, IsNotAhead, OnRefusal,
 ghost use Rattle.sfx_session.specs.Report.{report_of, skipping};
 ghost use Rattle.sfx_session.specs.Travel.{arrival, due_batch, due_outcome, travelled};
 
+use crate::heads::destination_head;
 use crate::refusal::refuse;
 use crate::travel::Travel;
 use crate::{Report, SessionFault};
@@ -25,7 +26,7 @@ use sfx_apply::{Applied, ApplyFault, apply_batch};
 use sfx_batch::{Batch, BatchFault, make_batch};
 use sfx_ids::Cut;
 use sfx_model::{Mode, SessionEnd};
-use sfx_provider::{Provider, ProviderFault};
+use sfx_provider::Provider;
 use std::alloc::Global;
 
 /// Brings to the destination what the source knows and it does not: batches of at most `size` changes are
@@ -152,14 +153,11 @@ fn next_batch<const U: usize, P: Provider<U>, Q: Provider<U>>(
     ensures fault_alone { IsNoRefusal result }
     ensures cause { HasCauses (P.faults source.old) (P.faults source.new) (Q.faults destination.old) (Q.faults destination.new) result }
 {
-    match destination.head(alloc) {
-        Ok(head) => match make_batch(alloc, source, &head.knowledge, from, size, Mode::Normal) {
-            Ok(batch) => Ok(batch),
-            Err(BatchFault::Provider) => Err(SessionFault::Source),
-            Err(BatchFault::Memory) => Err(SessionFault::Memory),
-        },
-        Err(ProviderFault::Failed) => Err(SessionFault::Destination),
-        Err(ProviderFault::Memory) => Err(SessionFault::Memory),
+    let head = destination_head(alloc, destination)?;
+    match make_batch(alloc, source, &head.knowledge, from, size, Mode::Normal) {
+        Ok(batch) => Ok(batch),
+        Err(BatchFault::Provider) => Err(SessionFault::Source),
+        Err(BatchFault::Memory) => Err(SessionFault::Memory),
     }
 }
 

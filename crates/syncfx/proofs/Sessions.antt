@@ -37,23 +37,26 @@ met_turn c source destination m n options meets o is =
     rw (meets.source_is, meets.destination_is, there) refl
 
 -- what is told of a session, and what it leaves
-pub met_reply : {told given : ReportData} (c : Community) (source destination : List ℕ) (m n : Member) (options : Options) (text : List ℕ)
-    → Meets c source destination m n → refusal_of 2 m n ≡ None → told ≡ given → given ≡ report_of 2 m n options.batch options.cut
-    → text ≡ report_text told.steps told.end → Synced text told.end ≡ (turned c source destination options).reply
-met_reply {told} c source destination m n options text meets free same is written =
+pub met_reply : (c : Community) (source destination : List ℕ) (m n : Member) (options : Options) (told : ReportData) (r : Result Reply Memory)
+    → Meets c source destination m n → refusal_of 2 m n ≡ None → told ≡ report_of 2 m n options.batch options.cut
+    → IfOk r (λ reply. reply ≡ Synced (report_text told.steps told.end) told.end)
+    → IfOk r (λ reply. reply ≡ (turned c source destination options).reply)
+met_reply c source destination m n options told (Ok reply) meets free is written =
     let here : told ≡ report_of c.units m n options.batch options.cut =
-    subst (λ (u : ℕ). told ≡ report_of u m n options.batch options.cut) (sym meets.units) (same ∙ is) in
+    subst (λ (u : ℕ). told ≡ report_of u m n options.batch options.cut) (sym meets.units) is in
     let turn = ap (λ (t : Turn). t.reply) (met_turn c source destination m n options meets None free) in
-    ap (λ t. Synced t told.end) written ∙ ap (λ (r : ReportData). Synced (report_text r.steps r.end) r.end) here ∙ sym turn
+    written ∙ ap (λ (r : ReportData). Synced (report_text r.steps r.end) r.end) here ∙ sym turn
+met_reply c source destination m n options told (Err e) meets free is written = tt
 
-pub met_after : (c d : Community) (source destination : List ℕ) (m n left given : Member) (options : Options)
-    → Meets c source destination m n → refusal_of 2 m n ≡ None → d ≡ with_changed destination left c → left ≡ given → given ≡ (session_under 2 m n options).course.member
-    → d ≡ (turned c source destination options).community
-met_after c d source destination m n left given options meets free put same is =
+pub met_after : (c d : Community) (source destination : List ℕ) (m n left : Member) (options : Options) (r : Result Reply Memory)
+    → Meets c source destination m n → refusal_of 2 m n ≡ None → left ≡ (session_under 2 m n options).course.member
+    → OnOk r (d ≡ with_changed destination left c) → OnOk r (d ≡ (turned c source destination options).community)
+met_after c d source destination m n left options (Ok reply) meets free is put =
     let here : left ≡ (session_under c.units m n options).course.member =
-    subst (λ (u : ℕ). left ≡ (session_under u m n options).course.member) (sym meets.units) (same ∙ is) in
+    subst (λ (u : ℕ). left ≡ (session_under u m n options).course.member) (sym meets.units) is in
     let turn = ap (λ (t : Turn). t.community) (met_turn c source destination m n options meets None free) in
     put ∙ ap (λ x. with_changed destination x c) here ∙ sym turn
+met_after c d source destination m n left options (Err e) meets free is put = tt
 
 -- what is none of a provider and no want of memory refuses the session
 refusal_is : (fault : SessionFault) (o : Option SessionFault) → IsRefusal fault o

@@ -2,13 +2,14 @@ ghost use Rattle.std.specs.Prelude.{◌≡◌, ◌≢◌, false, nat_eq, slice_g
 ghost use Rattle.std.specs.Option.{option_map_or};
 ghost use Rattle.sfx_model.specs.Members.{NamedMember};
 ghost use Rattle.sfx_script.specs.Limits.{AreWithinLimits, IsLimited};
-ghost use Rattle.syncfx.specs.declared.reply.Reply.TheVariants.{Refused};
+ghost use Rattle.syncfx.specs.declared.reply.Reply.TheVariants.{Refused, Synced};
 ghost use Rattle.syncfx.specs.declared.reason.Reason.TheVariants.{Edit, NoReplica, Session};
 ghost use Rattle.syncfx.specs.Reply.{is_memory};
+ghost use Rattle.syncfx.specs.Report.{report_text};
 ghost use Rattle.syncfx.specs.Turn.{is_built, leaves_changes, leaves_names};
 
 use crate::listing::listing;
-use crate::meeting::meet;
+use crate::meeting::{Meeting, meet};
 use crate::reason::Reason;
 use crate::reply::Reply;
 use crate::report::told;
@@ -284,14 +285,24 @@ impl Community {
             return Ok(no_replica(destination));
         };
         match meet(alloc, from, to, options) {
-            Ok(met) => {
-                let report = told(alloc, &met.report)?;
-                let end = met.report.end;
-                self.put(&destination, met.destination);
-                Ok(Reply::Synced { report, end })
-            }
+            Ok(met) => self.take(alloc, &destination, met),
             Err(fault) => session_refusal(fault),
         }
+    }
+
+    /// Puts the destination as the session left it in the place of the replica with this name, and tells
+    /// what the session did.
+    fn take(&mut self, alloc: Global, name: &Text, met: Meeting<UNITS>) -> Result<Reply, Memory>
+        ensures reply { IfOk result (λ reply. reply ≡ Synced (report_text met.report.steps met.report.end) met.report.end) }
+        ensures after { OnOk result (self.new ≡ with_changed name.now met.destination self.old) }
+        ensures err { OnErr result (self.new ≡ self.old) }
+    {
+        let report = told(alloc, &met.report)?;
+        self.put(name, met.destination);
+        Ok(Reply::Synced {
+            report,
+            end: met.report.end,
+        })
     }
 
     /// Puts the replica in the place of the one with this name, where there is one.

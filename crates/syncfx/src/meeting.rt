@@ -1,10 +1,11 @@
 //! A session between two replicas that are in memory.
-ghost use Rattle.std.specs.Prelude.{◌≡◌, IfOk, IsErrOf};
+ghost use Rattle.std.specs.Prelude.{◌≡◌, [], IfOk, IsErrOf};
 ghost use Rattle.sfx_script.specs.Limits.{AreWithinLimits};
 ghost use Rattle.sfx_session.specs.Refusals.{Refuses, refusal_of};
 ghost use Rattle.sfx_session.specs.Report.{report_of};
 ghost use Rattle.syncfx.specs.Turn.{session_under};
 
+use sfx_ids::Memory;
 use sfx_replica::{MemoryProvider, Replica};
 use sfx_script::Options;
 use sfx_session::{Report, SessionFault, session};
@@ -35,12 +36,22 @@ pub fn meet<const U: usize>(
     ensures source_stays { IsErrOf result SessionFault.Source → ⊥ }
     ensures destination_stays { IsErrOf result SessionFault.Destination → ⊥ }
 {
-    let mut from = MemoryProvider::new(source.copy(alloc)?, Vec::new(alloc));
-    let mut to = MemoryProvider::new(destination.copy(alloc)?, Vec::new(alloc));
+    let mut from = provider_of(alloc, source)?;
+    let mut to = provider_of(alloc, destination)?;
     let size = options.batch as usize;
     let report = session(alloc, &mut from, &mut to, size, options.group, options.cut)?;
     Ok(Meeting {
         report,
         destination: to.into_replica(),
     })
+}
+
+/// A provider of a copy of the replica, none of whose calls fails.
+fn provider_of<const U: usize>(
+    alloc: Global,
+    replica: &Replica<U>,
+) -> Result<MemoryProvider<U>, Memory>
+    ensures { IfOk result (λ p. p ≡ record { member = replica.now; fails = []; calls = 0; faults = 0 }) }
+{
+    Ok(MemoryProvider::new(replica.copy(alloc)?, Vec::new(alloc)))
 }

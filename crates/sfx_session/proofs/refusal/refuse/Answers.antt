@@ -1,9 +1,8 @@
-use Rattle.std.proofs.Common.{◌∙◌}
 use Rattle.sfx_session.proofs.Acting.{never_ahead}
 use Rattle.sfx_session.proofs.refusal.refuse.Goals as goal
 
-pub returns-then-tick-to-clause-not_ahead : goal.returns-then-tick-to-clause-not_ahead
-returns-then-tick-to-clause-not_ahead g c = λ w part.
-    let heads = c.in_ok-from.ensures in
-    never_ahead w g.row.U c.most-tick.result (g.P.Provider.state c.args.source.now) (g.Q.Provider.state c.args.destination.now) _ _
-    heads.orderly.0 (c.from.view_is ∙ heads.source_value) (c.to.view_is ∙ heads.value) c.most-tick.ensures c.if-tick-to.true part
+pub returns-then-tick-clock-clause-not_ahead : goal.returns-then-tick-clock-clause-not_ahead
+returns-then-tick-clock-clause-not_ahead g c = λ w part.
+    let bearing = c.in_ok-tick.ensures in
+    never_ahead w g.row.U c.in_ok-tick.tick c.in_ok-tick.clock (g.P.Provider.state c.args.source.now) (g.Q.Provider.state c.args.destination.now)
+    bearing.orderly.0 bearing.tick bearing.clock c.if-tick-clock.true part

@@ -9,8 +9,8 @@ returns-in-Ok-clause-reply c =
       destination_is = sym c.in-Some-find.ensures.found;
       units = c.in-Some.ensures.units refl;
     } in
-    met_reply c.args.self.now c.args.source c.args.destination c.in-Some.from.now c.in-Some-find.to.now c.args.options.now c.in_ok-report-in-Ok.report
-    meets c.in-Ok.ensures.refused (ap (λ m. m.report) c.met.view_is) c.in-Ok.ensures.report c.in_ok-report-in-Ok.ensures
+    met_reply c.args.self.now c.args.source c.args.destination c.in-Some.from.now c.in-Some-find.to.now c.args.options.now c.in-Ok.met.report c.take.result
+    meets c.in-Ok.ensures.refused c.in-Ok.ensures.report c.take.ensures.reply
 
 pub returns-in-Ok-clause-after : goal.returns-in-Ok-clause-after
 returns-in-Ok-clause-after c =
@@ -19,8 +19,8 @@ returns-in-Ok-clause-after c =
       destination_is = sym c.in-Some-find.ensures.found;
       units = c.in-Some.ensures.units refl;
     } in
-    met_after c.args.self.now c.put.new.self c.args.source c.args.destination c.in-Some.from.now c.in-Some-find.to.now _ c.in-Ok.met.destination c.args.options.now
-    meets c.in-Ok.ensures.refused c.put.ensures (ap (λ m. m.destination) c.met.view_is) c.in-Ok.ensures.destination
+    met_after c.args.self.now c.take.new.self c.args.source c.args.destination c.in-Some.from.now c.in-Some-find.to.now c.in-Ok.met.destination c.args.options.now c.take.result
+    meets c.in-Ok.ensures.refused c.in-Ok.ensures.destination c.take.ensures.after
 
 pub returns-clause-reply : goal.returns-clause-reply
 returns-clause-reply c =
