@@ -53,19 +53,27 @@ impl<R: Read> Source for StdSource<R> {
         ensures fits { self.old.faults < 2 ^ 64 }
         ensures faults { self.new.faults ≡ (if is_ok result then self.old.faults else counted self.old.faults) }
     {
-        let mut piece = [0; PIECE];
-        let room = into.len().min(PIECE);
-        match read_some(&mut self.reader, &mut piece[..room]) {
-            Ok(count) => {
-                into[..count].copy_from_slice(&piece[..count]);
-                Ok(count)
-            }
+        match read_piece(&mut self.reader, into) {
+            Ok(count) => Ok(count),
             Err(_) => {
                 self.faults = self.faults.saturating_add(1);
                 Err(Failed)
             }
         }
     }
+}
+
+/// Reads once into the front of `into`, and leaves the rest of it as it is.
+fn read_piece<R: Read>(reader: &mut R, into: &mut [u8]) -> io::Result<usize>
+    ensures count { IfOk result (λ n. n ≤ length into.old) }
+    ensures bytes { ReadConsumes (R.remaining reader.old) (R.remaining reader.new) result into.new }
+    ensures rest { IfOk result (λ n. drop n into.new ≡ drop n into.old) }
+{
+    let mut piece = [0; PIECE];
+    let room = into.len().min(PIECE);
+    let count = read_some(reader, &mut piece[..room])?;
+    into[..count].copy_from_slice(&piece[..count]);
+    Ok(count)
 }
 
 /// Reads once, and again where a signal came first.
