@@ -36,6 +36,20 @@ impl<W: Write> StdSink<W> {
     {
         StdSink { writer, faults: 0 }
     }
+
+    /// The writer, as the calls left it.
+    pub fn writer(&self) -> &W
+        ensures { W.contents result.now ≡ self.now.known }
+    {
+        &self.writer
+    }
+
+    /// How many writes have failed, up to the greatest `u64`.
+    pub fn faults(&self) -> u64
+        ensures { result ≡ self.now.faults }
+    {
+        self.faults
+    }
 }
 
 impl<W: Write> Sink for StdSink<W> {

@@ -37,6 +37,13 @@ impl<R: Read> StdSource<R> {
     {
         StdSource { reader, faults: 0 }
     }
+
+    /// How many reads have failed, up to the greatest `u64`.
+    pub fn faults(&self) -> u64
+        ensures { result ≡ self.now.faults }
+    {
+        self.faults
+    }
 }
 
 impl<R: Read> Source for StdSource<R> {
