@@ -25,7 +25,5 @@ mod puts;
 mod reading;
 mod stepping;
 mod taking;
-#[cfg(test)]
-mod tests;
 mod turn;
 mod work;

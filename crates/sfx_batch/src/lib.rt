@@ -10,5 +10,3 @@ mod batch;
 mod batch_fault;
 mod laws;
 mod making;
-#[cfg(test)]
-mod tests;

@@ -12,6 +12,4 @@ mod report;
 mod session_fault;
 mod sessions;
 mod step;
-#[cfg(test)]
-mod tests;
 mod travel;
