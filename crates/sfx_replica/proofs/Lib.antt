@@ -1,6 +1,5 @@
 pub mod Places
 pub mod Gathering
-pub mod Burying
 pub mod Comparing
 pub mod Refusing
 pub mod Consistency

@@ -7,16 +7,8 @@ pub use replica::Replica;
 
 mod clashes;
 mod edit_fault;
-#[cfg(test)]
-mod fixtures;
 mod items;
 mod live;
 mod memory_provider;
-#[cfg(test)]
-mod provider_tests;
-#[cfg(test)]
-mod reading_tests;
 mod replica;
-#[cfg(test)]
-mod tests;
 mod unseen;

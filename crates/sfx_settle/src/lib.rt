@@ -24,8 +24,6 @@ mod longer;
 mod marks;
 mod merger;
 mod rules;
-#[cfg(test)]
-mod tests;
 mod ticks;
 mod unit_classes;
 mod units;

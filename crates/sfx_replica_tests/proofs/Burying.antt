@@ -1,14 +1,13 @@
 -- A commit that puts a tombstone in the place of a present item.
-use Rattle.std.proofs.Common.{◌≡◌, ◌≢◌, ℕ, ◌<◌, Bool, true, false, if◌then◌else◌, List, [], ◌∷◌, ◌++◌, Some, None, refl, sym, ◌∙◌, ap, subst, arith}
+use Rattle.std.proofs.Common.{◌≡◌, ℕ, ◌<◌, Bool, true, false, List, [], ◌∷◌, ◌++◌, Some, None, refl, sym, ◌∙◌, ap, subst, arith}
 use Rattle.sfx_ids.specs.declared.cut.Cut.TheVariants.{At}
 use Rattle.sfx_ids.specs.declared.item_id.ItemId.{ItemId}
 use Rattle.sfx_ids.specs.declared.version.Version.{Version}
 use Rattle.sfx_ids.specs.ItemId.{creation_of}
 use Rattle.sfx_knowledge.specs.Knowledge.{KnowsVersion}
-use Rattle.sfx_model.specs.Consistent.{AreApart, IsConsistent, live_name}
+use Rattle.sfx_model.specs.Consistent.{IsConsistent, live_name}
 use Rattle.sfx_model.specs.Events.{same_item}
 use Rattle.sfx_model.specs.Members.{ItemState, Dead, Member, MemberItem, state_of}
-use Rattle.sfx_model.proofs.Steps.{same_item_is, same_item_self}
 use Rattle.std.specs.Prelude.{IsSome}
 use Rattle.sfx_model.specs.Putting.{put_item}
 use Rattle.sfx_provider.specs.Commit.{CommitData, commit_of}

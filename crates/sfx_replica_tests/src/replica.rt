@@ -1,16 +1,16 @@
 //! The edits that the users of small replicas make.
 use crate::fixtures::{counts, create, is_pair, item_id, pair, set, unit, version, with_names};
-use crate::{EditFault, Replica};
-use sfx_ids::{ItemId, Memory, ReplicaId, UnitId, Version};
+use sfx_ids::{ItemId, ReplicaId, UnitId, Version};
 use sfx_item::State;
 use sfx_knowledge::Knowledge;
+use sfx_replica::{EditFault, Replica};
 use std::alloc::Global;
 use std::process::Abort;
-use std::test::Fail;
 
 /// Whether the replica stores that it knows nothing.
-fn stores_nothing(alloc: Global, replica: &Replica<1>) -> Result<bool, Memory> {
-    Ok(replica.stored().same(&Knowledge::none(alloc)?))
+fn stores_nothing(rt: &impl Abort, alloc: Global, replica: &Replica<1>) -> bool {
+    let nothing = Knowledge::none(alloc).expect(rt, "knowledge");
+    replica.stored().same(&nothing)
 }
 
 /// Whether the item is live, with this text at the unit, of this version.
@@ -42,56 +42,45 @@ fn told_of(replica: &Replica<1>) -> (ReplicaId, (u64, u64), usize) {
     )
 }
 
-#[test]
-fn begins_with_nothing(rt: HostRuntime) -> Result<(), Fail> {
-    let replica = Replica::<1>::new(rt.alloc(), ReplicaId::new(10))?;
-    assert_eq!(rt; told_of(&replica), (ReplicaId::new(10), (0, 0), 0));
-    Ok(())
-}
-
 /// Creates an item: its id, the counts then, and whether the replica holds it with this name.
 fn created(
+    rt: &impl Abort,
     alloc: Global,
     replica: &mut Replica<1>,
     unit: UnitId<1>,
     name: &str,
-) -> Result<(ItemId, (u64, u64), bool), EditFault> {
-    let id = create(alloc, replica, name)?;
+) -> (ItemId, (u64, u64), bool) {
+    let id = create(rt, alloc, replica, name).expect(rt, "an item");
     let is_held = holds(replica, &id, unit, name, &id.creation());
-    Ok((id, counts(replica), is_held))
+    (id, counts(replica), is_held)
 }
 
-/// A new replica is to create items at the ticks from 1 on.
-fn expect_created(
-    rt: &impl Abort,
-    alloc: Global,
-    replica: &mut Replica<1>,
-) -> Result<(), EditFault> {
+/// A new replica is to begin with nothing, and to create items at the ticks from 1 on.
+fn expect_created(rt: &impl Abort, alloc: Global, replica: &mut Replica<1>) {
+    assert!(rt; told_of(replica) == (ReplicaId::new(10), (0, 0), 0));
     let unit = unit::<1>(rt, 0);
     for (name, count) in [("dir/f", 1), ("dir2", 2), ("di", 3), ("dir/g", 4)] {
-        let told = created(alloc, replica, unit, name)?;
-        let id = item_id(rt, count, 10);
-        assert_eq!(rt; told, (id, (count, count), true), "{name}");
+        let told = (item_id(rt, count, 10), (count, count), true);
+        assert!(rt; created(rt, alloc, replica, unit, name) == told, "{name}");
     }
-    assert!(rt; stores_nothing(alloc, replica)?);
-    Ok(())
+    assert!(rt; stores_nothing(rt, alloc, replica));
 }
 
 #[test]
-fn creates_items(rt: HostRuntime) -> Result<(), Fail> {
+fn creates_items(rt: HostRuntime) {
     let alloc = rt.alloc();
-    let mut replica = Replica::<1>::new(alloc, ReplicaId::new(10))?;
-    expect_created(&rt, alloc, &mut replica)?;
-    Ok(())
+    let mut replica = Replica::<1>::new(alloc, ReplicaId::new(10)).expect(&rt, "a replica");
+    expect_created(&rt, alloc, &mut replica);
 }
 
 /// What the replica answers where an item is to be created, and its counts then.
 fn refused_name(
+    rt: &impl Abort,
     alloc: Global,
     replica: &mut Replica<1>,
     name: &str,
 ) -> (Result<ItemId, EditFault>, (u64, u64)) {
-    let answer = create(alloc, replica, name);
+    let answer = create(rt, alloc, replica, name);
     (answer, counts(replica))
 }
 
@@ -99,11 +88,8 @@ fn refused_name(
 fn expect_bad_names(rt: &impl Abort, alloc: Global, replica: &mut Replica<1>) {
     for (name, at) in [("", 0), ("b/", 2), ("b//f", 2), ("b\u{1}", 1)] {
         let fault = Err(EditFault::BadName(at));
-        assert_eq!(rt;
-            refused_name(alloc, replica, name),
-            (fault, (3, 3)),
-            "{name}"
-        );
+        let answer = refused_name(rt, alloc, replica, name);
+        assert!(rt; answer == (fault, (3, 3)), "{name}");
     }
 }
 
@@ -111,43 +97,36 @@ fn expect_bad_names(rt: &impl Abort, alloc: Global, replica: &mut Replica<1>) {
 fn expect_clashes(rt: &impl Abort, alloc: Global, replica: &mut Replica<1>) {
     for (name, item) in [("b", 3), ("b/f", 3), ("a", 1), ("a/x", 1), ("a/z/x", 2)] {
         let fault = Err(EditFault::Clash(item_id(rt, item, 10)));
-        assert_eq!(rt;
-            refused_name(alloc, replica, name),
-            (fault, (3, 3)),
-            "{name}"
-        );
+        let answer = refused_name(rt, alloc, replica, name);
+        assert!(rt; answer == (fault, (3, 3)), "{name}");
     }
+    assert!(rt; create(rt, alloc, replica, "a/x2") == Ok(item_id(rt, 4, 10)));
 }
 
 #[test]
-fn refuses_creation(rt: HostRuntime) -> Result<(), Fail> {
+fn refuses_creation(rt: HostRuntime) {
     let alloc = rt.alloc();
-    let mut replica = with_names(alloc, &["a/x/y", "a/z", "b"])?;
+    let mut replica = with_names(&rt, alloc, &["a/x/y", "a/z", "b"]);
     expect_bad_names(&rt, alloc, &mut replica);
     expect_clashes(&rt, alloc, &mut replica);
-    assert_eq!(rt; create(alloc, &mut replica, "a/x2")?, item_id(&rt, 4, 10));
-    Ok(())
 }
 
 /// Writes the text to the unit of the item: the version, the counts then, and whether the item has it.
 fn written(
+    rt: &impl Abort,
     alloc: Global,
     replica: &mut Replica<2>,
     id: &ItemId,
     unit: UnitId<2>,
     text: &str,
-) -> Result<(Version, (u64, u64), bool), EditFault> {
-    let made = set(alloc, replica, id, unit.get(), text)?;
+) -> (Version, (u64, u64), bool) {
+    let made = set(rt, alloc, replica, id, unit.get(), text).expect(rt, "a version");
     let is_held = holds(replica, id, unit, text, &made);
-    Ok((made, counts(replica), is_held))
+    (made, counts(replica), is_held)
 }
 
 /// Writes to a pair: an equal value, a name of its own, a name below its own, and one that is free again.
-fn expect_written(
-    rt: &impl Abort,
-    alloc: Global,
-    replica: &mut Replica<2>,
-) -> Result<(), EditFault> {
+fn expect_written(rt: &impl Abort, alloc: Global, replica: &mut Replica<2>) {
     for (item, k, text, count) in [
         (1, 1, "1", 3),
         (1, 0, "a", 4),
@@ -157,11 +136,17 @@ fn expect_written(
         (1, 0, "a", 8),
         (1, 1, "b", 9),
     ] {
-        let id = item_id(rt, item, 10);
-        let told = written(alloc, replica, &id, unit::<2>(rt, k), text)?;
-        assert_eq!(rt; told, (version(rt, 10, count), (count, 2), true), "{text}");
+        let answer = written(
+            rt,
+            alloc,
+            replica,
+            &item_id(rt, item, 10),
+            unit::<2>(rt, k),
+            text,
+        );
+        let told = (version(rt, 10, count), (count, 2), true);
+        assert!(rt; answer == told, "{text}");
     }
-    Ok(())
 }
 
 /// The name of the first item and the text of the second are to stay as they were written last.
@@ -173,32 +158,28 @@ fn expect_kept(rt: &impl Abort, replica: &Replica<2>) {
 }
 
 #[test]
-fn sets_values(rt: HostRuntime) -> Result<(), Fail> {
+fn sets_values(rt: HostRuntime) {
     let alloc = rt.alloc();
-    let mut replica = pair(alloc, 10)?;
-    expect_written(&rt, alloc, &mut replica)?;
+    let mut replica = pair(&rt, alloc, 10);
+    expect_written(&rt, alloc, &mut replica);
     expect_kept(&rt, &replica);
-    Ok(())
 }
 
 /// What a pair answers to a text for the unit of the item, its clock then, and whether it is as at first.
 fn refused_text(
+    rt: &impl Abort,
     alloc: Global,
     replica: &mut Replica<2>,
     id: &ItemId,
     k: usize,
     text: &str,
-) -> Result<(Result<Version, EditFault>, (u64, u64), bool), EditFault> {
-    let answer = set(alloc, replica, id, k, text);
-    Ok((answer, counts(replica), is_pair(alloc, replica)?))
+) -> (Result<Version, EditFault>, (u64, u64), bool) {
+    let answer = set(rt, alloc, replica, id, k, text);
+    (answer, counts(replica), is_pair(rt, alloc, replica))
 }
 
 /// A pair is to refuse texts for units that are not there, and for names.
-fn expect_not_written(
-    rt: &impl Abort,
-    alloc: Global,
-    replica: &mut Replica<2>,
-) -> Result<(), EditFault> {
+fn expect_not_written(rt: &impl Abort, alloc: Global, replica: &mut Replica<2>) {
     for (item, maker, k, text, fault) in [
         (3, 10, 2, "/", EditFault::NoItem),
         (1, 11, 0, "a", EditFault::NoItem),
@@ -210,16 +191,14 @@ fn expect_not_written(
         (1, 10, 0, "b/c", EditFault::Clash(item_id(rt, 2, 10))),
         (2, 10, 0, "a/d", EditFault::Clash(item_id(rt, 1, 10))),
     ] {
-        let told = refused_text(alloc, replica, &item_id(rt, item, maker), k, text)?;
-        assert_eq!(rt; told, (Err(fault), (2, 2), true), "{text}");
+        let answer = refused_text(rt, alloc, replica, &item_id(rt, item, maker), k, text);
+        assert!(rt; answer == (Err(fault), (2, 2), true), "{text}");
     }
-    Ok(())
 }
 
 #[test]
-fn refuses_values(rt: HostRuntime) -> Result<(), Fail> {
+fn refuses_values(rt: HostRuntime) {
     let alloc = rt.alloc();
-    let mut replica = pair(alloc, 10)?;
-    expect_not_written(&rt, alloc, &mut replica)?;
-    Ok(())
+    let mut replica = pair(&rt, alloc, 10);
+    expect_not_written(&rt, alloc, &mut replica);
 }

@@ -1,7 +1,7 @@
 use Rattle.std.proofs.Common.{◌≡◌, ◌∙◌, ap, refl}
 use Rattle.sfx_provider.specs.Commit.{CommitData, commit_of}
-use Rattle.sfx_replica.proofs.Burying.{both_fit}
-use Rattle.sfx_replica.proofs.provider_tests.two_commits.Goals as goal
+use Rattle.sfx_replica_tests.proofs.Burying.{both_fit}
+use Rattle.sfx_replica_tests.proofs.provider.two_commits.Goals as goal
 
 pub returns : goal.returns
 returns c =

@@ -1,13 +1,14 @@
 //! Small replicas, which the tests make, edit and compare.
 ghost use Rattle.std.specs.Prelude.{◌≡◌, length, IfOk};
 
-use crate::{EditFault, Replica};
 use sfx_ids::{ItemId, ReplicaId, Tick, UnitId, Version};
 use sfx_item::{Name, Value};
+use sfx_knowledge::Knowledge;
+use sfx_replica::{EditFault, Replica};
 use std::alloc::{AllocError, Global};
 use std::process::Abort;
 
-fn value(alloc: Global, text: &str) -> Result<Value, AllocError> {
+pub fn value(alloc: Global, text: &str) -> Result<Value, AllocError> {
     Ok(Value::new(Vec::from_slice(alloc, text.as_bytes())?))
 }
 
@@ -21,7 +22,7 @@ fn one(alloc: Global, name: &str) -> Result<Vec<Value>, AllocError>
 }
 
 /// The values of an item with two units.
-fn two(alloc: Global, name: &str, text: &str) -> Result<Vec<Value>, AllocError>
+pub fn two(alloc: Global, name: &str, text: &str) -> Result<Vec<Value>, AllocError>
     ensures { IfOk result (λ values. length values.items ≡ 2) }
 {
     let mut values = Vec::new(alloc);
@@ -30,11 +31,8 @@ fn two(alloc: Global, name: &str, text: &str) -> Result<Vec<Value>, AllocError>
     Ok(values)
 }
 
-pub fn name(alloc: Global, text: &str) -> Result<Name, EditFault> {
-    match Name::read(alloc, text.as_bytes()) {
-        Ok(name) => Ok(name),
-        Err(_) => Err(EditFault::BadName(0)),
-    }
+pub fn name(rt: &impl Abort, alloc: Global, text: &str) -> Name {
+    Name::read(alloc, text.as_bytes()).expect(rt, "a name")
 }
 
 fn tick(rt: &impl Abort, count: u64) -> Tick {
@@ -57,51 +55,63 @@ pub fn unit<const U: usize>(rt: &impl Abort, index: usize) -> UnitId<U> {
 }
 
 /// Creates an item of one unit in the replica.
-pub fn create(alloc: Global, replica: &mut Replica<1>, name: &str) -> Result<ItemId, EditFault> {
-    replica.create(one(alloc, name)?)
+pub fn create(
+    rt: &impl Abort,
+    alloc: Global,
+    replica: &mut Replica<1>,
+    name: &str,
+) -> Result<ItemId, EditFault> {
+    replica.create(one(alloc, name).expect(rt, "values"))
 }
 
 /// Creates an item of two units in the replica.
 pub fn create_two(
+    rt: &impl Abort,
     alloc: Global,
     replica: &mut Replica<2>,
     name: &str,
     text: &str,
 ) -> Result<ItemId, EditFault> {
-    replica.create(two(alloc, name, text)?)
+    replica.create(two(alloc, name, text).expect(rt, "values"))
 }
 
 /// A replica that created items with these names, of one unit each.
-pub fn with_names(alloc: Global, names: &[&str]) -> Result<Replica<1>, EditFault> {
-    let mut replica = Replica::<1>::new(alloc, ReplicaId::new(10))?;
+pub fn with_names(rt: &impl Abort, alloc: Global, names: &[&str]) -> Replica<1> {
+    let mut replica = Replica::<1>::new(alloc, ReplicaId::new(10)).expect(rt, "a replica");
     for name in names {
-        create(alloc, &mut replica, name)?;
+        create(rt, alloc, &mut replica, name).expect(rt, "an item");
     }
-    Ok(replica)
+    replica
 }
 
 /// Writes the text to the unit of the item.
 pub fn set(
+    rt: &impl Abort,
     alloc: Global,
     replica: &mut Replica<2>,
     id: &ItemId,
     k: usize,
     text: &str,
 ) -> Result<Version, EditFault> {
-    replica.set(id, k, value(alloc, text)?)
+    replica.set(id, k, value(alloc, text).expect(rt, "a value"))
 }
 
 /// A replica that created `a` and `b/c`, with two units each.
-pub fn pair(alloc: Global, id: u128) -> Result<Replica<2>, EditFault> {
-    let mut replica = Replica::<2>::new(alloc, ReplicaId::new(id))?;
-    create_two(alloc, &mut replica, "a", "1")?;
-    create_two(alloc, &mut replica, "b/c", "2")?;
-    Ok(replica)
+pub fn pair(rt: &impl Abort, alloc: Global, id: u128) -> Replica<2> {
+    let mut replica = Replica::<2>::new(alloc, ReplicaId::new(id)).expect(rt, "a replica");
+    create_two(rt, alloc, &mut replica, "a", "1").expect(rt, "an item");
+    create_two(rt, alloc, &mut replica, "b/c", "2").expect(rt, "an item");
+    replica
 }
 
 /// The clock of the replica, and how many items it has.
 pub fn counts<const U: usize>(replica: &Replica<U>) -> (u64, u64) {
     (replica.clock(), replica.items().len() as u64)
+}
+
+/// What the replica knows, its own versions included.
+pub fn known_to(rt: &impl Abort, alloc: Global, replica: &Replica<2>) -> Knowledge<2> {
+    replica.knowledge(alloc).expect(rt, "knowledge")
 }
 
 /// Whether both have the same live items.
@@ -110,6 +120,6 @@ pub fn are_alike(a: &Replica<2>, b: &Replica<2>) -> bool {
 }
 
 /// Whether the replica has the live items of a pair as it is at first.
-pub fn is_pair(alloc: Global, replica: &Replica<2>) -> Result<bool, EditFault> {
-    Ok(are_alike(replica, &pair(alloc, 10)?))
+pub fn is_pair(rt: &impl Abort, alloc: Global, replica: &Replica<2>) -> bool {
+    are_alike(replica, &pair(rt, alloc, 10))
 }

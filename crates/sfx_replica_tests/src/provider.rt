@@ -1,0 +1,284 @@
+//! Commits to small replicas, and providers of them.
+ghost use Rattle.std.specs.Prelude.{◌≡◌, IfOk};
+ghost use Rattle.sfx_provider.specs.Course.{AllFit};
+ghost use Rattle.sfx_provider.specs.Fits.{Fits};
+
+use crate::fixtures::{counts, is_pair, item_id, known_to, name, pair};
+use sfx_ids::{Cut, ItemId};
+use sfx_item::{Item, Name, State};
+use sfx_knowledge::Knowledge;
+use sfx_provider::{Commit, Provider, ProviderFault, all_items, commit_all};
+use sfx_replica::{MemoryProvider, Replica};
+use std::alloc::Global;
+use std::process::Abort;
+
+/// A commit that drops the item, which the replica holds.
+fn dropping(alloc: Global, replica: &Replica<2>, id: &ItemId) -> Result<Commit<2>, ProviderFault>
+    ensures { IfOk result (λ commit. Fits 2 commit replica.now) }
+{
+    replica.id();
+    let Some(_) = replica.item(id) else {
+        return Err(ProviderFault::Failed);
+    };
+    let mut commit = replica.head(alloc)?.into_commit(alloc);
+    commit.drops.push(*id)?;
+    Ok(commit)
+}
+
+/// A commit that puts a tombstone in the place of the item, which the replica holds.
+fn burying(alloc: Global, replica: &Replica<2>, id: &ItemId) -> Result<Commit<2>, ProviderFault>
+    ensures { IfOk result (λ commit. Fits 2 commit replica.now) }
+{
+    replica.id();
+    let Some(_) = replica.item(id) else {
+        return Err(ProviderFault::Failed);
+    };
+    let mut commit = replica.head(alloc)?.into_commit(alloc);
+    let state = State::Dead(id.creation());
+    commit.puts.push(Item { id: *id, state })?;
+    Ok(commit)
+}
+
+/// Installs a commit that drops the item.
+fn install_drop(rt: &impl Abort, alloc: Global, replica: &mut Replica<2>, id: &ItemId) {
+    let commit = dropping(alloc, replica, id).expect(rt, "a commit");
+    replica.install(&commit).expect(rt, "memory");
+}
+
+/// A pair is to have its second item alone once a drop of the first is installed.
+fn expect_dropped(rt: &impl Abort, alloc: Global, replica: &mut Replica<2>) {
+    install_drop(rt, alloc, replica, &item_id(rt, 1, 10));
+    assert!(rt; counts(replica) == (2, 1));
+    assert!(rt; replica.item(&item_id(rt, 2, 10)).is_some());
+}
+
+#[test]
+fn installs_drops(rt: HostRuntime) {
+    let alloc = rt.alloc();
+    let mut replica = pair(&rt, alloc, 10);
+    expect_dropped(&rt, alloc, &mut replica);
+}
+
+/// Installs a copy of a commit that puts a tombstone in the place of the item.
+fn install_put(rt: &impl Abort, alloc: Global, replica: &mut Replica<2>, id: &ItemId) {
+    let commit = burying(alloc, replica, id).expect(rt, "a commit");
+    let copy = commit.copy(alloc).expect(rt, "a copy");
+    replica.install(&copy).expect(rt, "memory");
+}
+
+/// Whether the replica knows the same as a pair at first.
+fn knows_as_pair(rt: &impl Abort, alloc: Global, replica: &Replica<2>) -> bool {
+    let known = known_to(rt, alloc, &pair(rt, alloc, 10));
+    known_to(rt, alloc, replica).same(&known)
+}
+
+/// A pair is to have other live items but the same knowledge once a tombstone of the first is installed.
+fn expect_buried(rt: &impl Abort, alloc: Global, replica: &mut Replica<2>) {
+    install_put(rt, alloc, replica, &item_id(rt, 1, 10));
+    assert!(rt; counts(replica) == (2, 2));
+    assert!(rt; !is_pair(rt, alloc, replica));
+    assert!(rt; knows_as_pair(rt, alloc, replica));
+}
+
+#[test]
+fn installs_puts(rt: HostRuntime) {
+    let alloc = rt.alloc();
+    let mut replica = pair(&rt, alloc, 10);
+    expect_buried(&rt, alloc, &mut replica);
+}
+
+/// A provider of a replica that created two items.
+fn provider(rt: &impl Abort, alloc: Global, fails: &[u64]) -> MemoryProvider<2> {
+    let fails = Vec::from_slice(alloc, fails).expect(rt, "calls");
+    MemoryProvider::new(pair(rt, alloc, 10), fails)
+}
+
+/// How many items the provider lists as unseen to one that knows nothing.
+fn count_unseen(alloc: Global, provider: &mut MemoryProvider<2>) -> Result<u64, ProviderFault> {
+    let nothing = Knowledge::none(alloc)?;
+    Ok(provider.unseen(alloc, &nothing, &Cut::Start, 9)?.len() as u64)
+}
+
+/// The clock that the provider tells.
+fn clock_of(alloc: Global, provider: &mut MemoryProvider<2>) -> Result<u64, ProviderFault> {
+    Ok(provider.head(alloc)?.clock)
+}
+
+/// How many items but this one clash with the name.
+fn count_clashing(
+    alloc: Global,
+    provider: &mut MemoryProvider<2>,
+    id: &ItemId,
+    name: &Name,
+) -> Result<u64, ProviderFault> {
+    Ok(provider.clashing(alloc, name, id)?.len() as u64)
+}
+
+/// 1 where the provider has the item.
+fn count_item(
+    alloc: Global,
+    provider: &mut MemoryProvider<2>,
+    id: &ItemId,
+) -> Result<u64, ProviderFault> {
+    Ok(provider.item(alloc, id)?.is_some() as u64)
+}
+
+/// 1 where the provider has an item.
+fn count_first(alloc: Global, provider: &mut MemoryProvider<2>) -> Result<u64, ProviderFault> {
+    Ok(provider.next_from(alloc, &Cut::Start)?.is_some() as u64)
+}
+
+/// Makes one of the calls that read: how many items, or which clock, it tells.
+fn read(
+    alloc: Global,
+    provider: &mut MemoryProvider<2>,
+    id: &ItemId,
+    name: &Name,
+    call: u64,
+) -> Result<u64, ProviderFault> {
+    match call {
+        0 => clock_of(alloc, provider),
+        1 => count_item(alloc, provider, id),
+        2 => count_first(alloc, provider),
+        3 => count_clashing(alloc, provider, id, name),
+        _ => count_unseen(alloc, provider),
+    }
+}
+
+/// The three answers to the same call of a provider whose first and third calls fail.
+fn read_thrice(
+    rt: &impl Abort,
+    alloc: Global,
+    id: &ItemId,
+    name: &Name,
+    call: u64,
+) -> [Result<u64, ProviderFault>; 3] {
+    let mut provider = provider(rt, alloc, &[1, 3]);
+    let first = read(alloc, &mut provider, id, name, call);
+    let second = read(alloc, &mut provider, id, name, call);
+    let third = read(alloc, &mut provider, id, name, call);
+    [first, second, third]
+}
+
+#[test]
+fn fails_at_listed_calls(rt: HostRuntime) {
+    let alloc = rt.alloc();
+    let id = item_id(&rt, 1, 10);
+    let name = name(&rt, alloc, "b");
+    for (call, told) in [(0, 2), (1, 1), (2, 1), (3, 1), (4, 2)] {
+        let failed = Err(ProviderFault::Failed);
+        let answers = read_thrice(&rt, alloc, &id, &name, call);
+        assert!(rt; answers == [failed, Ok(told), failed], "{call}");
+    }
+}
+
+/// The answer of a provider of the replica to the commit, and how many items it has then.
+fn commit_to(
+    rt: &impl Abort,
+    alloc: Global,
+    replica: Replica<2>,
+    fails: &[u64],
+    commit: &Commit<2>,
+) -> (usize, Result<(), ProviderFault>)
+    requires { Fits 2 commit.now replica }
+{
+    let fails = Vec::from_slice(alloc, fails).expect(rt, "calls");
+    let mut provider = MemoryProvider::new(replica, fails);
+    let answer = provider.commit(commit);
+    (provider.into_replica().items().len(), answer)
+}
+
+/// How many items a provider of a pair has after a commit that drops one, and its answer.
+fn commit_one(
+    rt: &impl Abort,
+    alloc: Global,
+    id: &ItemId,
+    fails: &[u64],
+) -> (usize, Result<(), ProviderFault>) {
+    let replica = pair(rt, alloc, 10);
+    let commit = dropping(alloc, &replica, id).expect(rt, "a commit");
+    commit_to(rt, alloc, replica, fails, &commit)
+}
+
+#[test]
+fn commits_unless_listed(rt: HostRuntime) {
+    let alloc = rt.alloc();
+    let first = item_id(&rt, 1, 10);
+    assert!(rt; commit_one(&rt, alloc, &first, &[]) == (1, Ok(())));
+    let failed = Err(ProviderFault::Failed);
+    for (call, told) in [(2, (1, Ok(()))), (1, (2, failed))] {
+        assert!(rt; commit_one(&rt, alloc, &first, &[call]) == told, "{call}");
+    }
+}
+
+/// How many items a walk over a provider whose listed calls fail gives.
+fn count_items(rt: &impl Abort, alloc: Global, fails: &[u64]) -> Result<usize, ProviderFault> {
+    walk(alloc, &mut provider(rt, alloc, fails))
+}
+
+fn walk(alloc: Global, provider: &mut MemoryProvider<2>) -> Result<usize, ProviderFault> {
+    Ok(all_items(alloc, provider)?.len())
+}
+
+#[test]
+fn walks_over_items(rt: HostRuntime) {
+    assert!(rt; count_items(&rt, rt.alloc(), &[]) == Ok(2));
+    let failed = Err(ProviderFault::Failed);
+    for (call, told) in [(1, failed), (2, failed), (3, failed), (4, Ok(2))] {
+        assert!(rt; count_items(&rt, rt.alloc(), &[call]) == told, "{call}");
+    }
+}
+
+/// A commit that changes nothing, and one that drops the item, which the replica holds.
+fn two_commits(
+    alloc: Global,
+    replica: &Replica<2>,
+    id: &ItemId,
+) -> Result<Vec<Commit<2>>, ProviderFault>
+    ensures { IfOk result (λ commits. AllFit 2 commits.items replica.now) }
+{
+    replica.id();
+    let mut commits = Vec::new(alloc);
+    commits.push(replica.head(alloc)?.into_commit(alloc))?;
+    commits.push(dropping(alloc, replica, id)?)?;
+    Ok(commits)
+}
+
+/// The answer of a provider of the replica to the commits, and how many items it has then.
+fn commit_all_to(
+    rt: &impl Abort,
+    alloc: Global,
+    replica: Replica<2>,
+    fails: &[u64],
+    commits: &[Commit<2>],
+) -> (usize, Result<(), ProviderFault>)
+    requires { AllFit 2 commits.now replica }
+{
+    let fails = Vec::from_slice(alloc, fails).expect(rt, "calls");
+    let mut provider = MemoryProvider::new(replica, fails);
+    let answer = commit_all(&mut provider, commits);
+    (provider.into_replica().items().len(), answer)
+}
+
+/// How many items a provider of a pair has after two commits, and its answer.
+fn commit_two(
+    rt: &impl Abort,
+    alloc: Global,
+    id: &ItemId,
+    fails: &[u64],
+) -> (usize, Result<(), ProviderFault>) {
+    let replica = pair(rt, alloc, 10);
+    let commits = two_commits(alloc, &replica, id).expect(rt, "commits");
+    commit_all_to(rt, alloc, replica, fails, commits.as_slice())
+}
+
+#[test]
+fn commits_in_a_row(rt: HostRuntime) {
+    let alloc = rt.alloc();
+    let first = item_id(&rt, 1, 10);
+    assert!(rt; commit_two(&rt, alloc, &first, &[]) == (1, Ok(())));
+    for call in [1, 2] {
+        let told = (2, Err(ProviderFault::Failed));
+        assert!(rt; commit_two(&rt, alloc, &first, &[call]) == told, "{call}");
+    }
+}
