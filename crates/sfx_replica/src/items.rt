@@ -10,6 +10,7 @@ ghost use Rattle.sfx_replica.specs.Items.{place_for};
 
 use sfx_ids::{Cut, ItemId, Memory, Version};
 use sfx_item::{Cell, Item, Value};
+use sfx_provider::copies;
 use std::alloc::{AllocError, Global};
 
 /// Where the item with this id stands.
@@ -61,8 +62,24 @@ pub fn insert<const U: usize>(items: &mut Vec<Item<U>>, item: Item<U>) -> Result
     Ok(())
 }
 
+/// Puts a copy of each of these items in the place of the one with its id, or in its place by id where there
+/// is none. Nothing has changed where memory ran out.
+pub fn put_copies<const U: usize>(
+    alloc: Global,
+    items: &mut Vec<Item<U>>,
+    puts: &[Item<U>],
+) -> Result<(), Memory>
+    ensures ok { OnOk result (items_view items.new.items ≡ put_all (items_view puts.now) (items_view items.old.items)) }
+    ensures err { OnErr result (items.new.items ≡ items.old.items) }
+{
+    let copied = copies(alloc, puts)?;
+    items.reserve(copied.len())?;
+    put_all(items, copied);
+    Ok(())
+}
+
 /// Puts each of these items in the place of that with its id, or in its place by id where there is none.
-pub fn put_all<const U: usize>(items: &mut Vec<Item<U>>, puts: Vec<Item<U>>)
+fn put_all<const U: usize>(items: &mut Vec<Item<U>>, puts: Vec<Item<U>>)
     requires room { vec_len items.old + vec_len puts ≤ vec_capacity items.old }
     ensures { items_view items.new.items ≡ put_all (items_view puts.entry.items) (items_view items.old.items) }
 {

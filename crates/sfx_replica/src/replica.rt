@@ -3,7 +3,7 @@ ghost use Rattle.std.specs.Prelude.{◌≡◌, ◌≤◌, ◌↔◌, if◌then�
 
 use crate::EditFault;
 use crate::clashes::{clashing, first_clash};
-use crate::items::{cells_at, drop_all, first_from, insert, place_of, put_all};
+use crate::items::{cells_at, drop_all, first_from, insert, place_of, put_copies};
 use crate::live::same_live;
 use crate::unseen::unseen;
 use sfx_ids::{Cut, ItemId, MAX_TICK, Memory, ReplicaId, Tick, UnitId, Version};
@@ -232,18 +232,8 @@ impl<const U: usize> Replica<U> {
         ensures err { OnErr result (self.new ≡ self.old) }
         ensures acts { OnOk result ((w : World) → WellFormed w → w.units ≡ U → RepresentsReplica w self.old.id (shown self.old) → ActsIn w (Make self.old.id (next_item self.old) (next_version self.old) (created_contents values.items)) self.old.id self.new) }
     {
-        let alloc = *self.items.allocator();
-        self.check_name(values[0].bytes(), None)?;
-        let version = self.next_version()?;
-        let id = ItemId {
-            tick: version.tick,
-            replica: version.replica,
-        };
-        let row = Row::new(alloc, cells_at(alloc, version, values)?)?.unwrap();
-        let item = Item {
-            id,
-            state: State::Live(row),
-        };
+        let item = self.new_item(values)?;
+        let id = item.id;
         insert(&mut self.items, item)?;
         self.clock += 1;
         Ok(id)
@@ -296,14 +286,31 @@ impl<const U: usize> Replica<U> {
         let alloc = *self.items.allocator();
         let knowledge = commit.knowledge.without_own(alloc, &self.id)?;
         let forgotten = commit.forgotten.copy(alloc)?;
-        let puts = copies(alloc, commit.puts.as_slice())?;
-        self.items.reserve(puts.len())?;
-        put_all(&mut self.items, puts);
+        put_copies(alloc, &mut self.items, commit.puts.as_slice())?;
         drop_all(&mut self.items, commit.drops.as_slice());
         self.clock = commit.clock;
         self.knowledge = knowledge;
         self.forgotten = forgotten;
         Ok(())
+    }
+
+    /// The item that is created next with these values.
+    fn new_item(&self, values: Vec<Value>) -> Result<Item<U>, EditFault>
+        requires whole { length values.items ≡ U }
+        ensures refused { Refuses result (create_refusal self.now values.items) }
+        ensures value { IfOk result (λ item. item_view item ≡ next_created self.now values.items) }
+    {
+        let alloc = *self.items.allocator();
+        self.check_name(values[0].bytes(), None)?;
+        let version = self.next_version()?;
+        let row = Row::new(alloc, cells_at(alloc, version, values)?)?.unwrap();
+        Ok(Item {
+            id: ItemId {
+                tick: version.tick,
+                replica: version.replica,
+            },
+            state: State::Live(row),
+        })
     }
 
     /// The cell that is written next to the unit of the item.
