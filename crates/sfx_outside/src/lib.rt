@@ -26,7 +26,5 @@ mod sink_fault;
 mod source;
 mod std_sink;
 mod std_source;
-#[cfg(test)]
-mod tests;
 mod text;
 mod writing;
