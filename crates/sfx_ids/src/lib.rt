@@ -28,8 +28,6 @@ mod part;
 mod range;
 mod replica_id;
 mod replica_text;
-#[cfg(test)]
-mod tests;
 mod tick;
 mod unit_id;
 mod version;

@@ -21,6 +21,4 @@ mod name;
 mod name_fault;
 mod row;
 mod state;
-#[cfg(test)]
-mod tests;
 mod value;

@@ -13,7 +13,5 @@ mod knowledge;
 mod laws;
 mod rows;
 mod skips;
-#[cfg(test)]
-mod tests;
 mod unit_row;
 mod vectors;

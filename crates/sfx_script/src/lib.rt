@@ -17,8 +17,6 @@ mod line_words;
 mod options;
 mod parsing;
 mod printed;
-#[cfg(test)]
-mod tests;
 mod value_word;
 mod values;
 mod word;

@@ -3,3 +3,9 @@
 
 #[cfg(test)]
 mod ends;
+#[cfg(test)]
+mod faults;
+#[cfg(test)]
+mod lines;
+#[cfg(test)]
+mod printed;

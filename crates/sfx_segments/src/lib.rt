@@ -10,5 +10,3 @@ mod join;
 mod laws;
 mod merge;
 mod segments;
-#[cfg(test)]
-mod tests;

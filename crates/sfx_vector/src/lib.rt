@@ -6,5 +6,3 @@ pub use laws::ticks_tell_apart;
 
 mod clock_vector;
 mod laws;
-#[cfg(test)]
-mod tests;
