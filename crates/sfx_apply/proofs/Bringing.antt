@@ -1,5 +1,5 @@
 -- What a batch does in a world, and that no replica of it is ahead, by the laws of the model.
-use Rattle.std.proofs.Common.{◌≡◌, ℕ, Option, Some, None, sym, ◌∙◌, ap, subst}
+use Rattle.std.proofs.Common.{◌≡◌, ℕ, Option, Some, None, Err, sym, ◌∙◌, ap, subst}
 use Rattle.sfx_knowledge.specs.Forgotten.{Forgets}
 use Rattle.sfx_knowledge.specs.Knowledge.{Known}
 use Rattle.sfx_model.specs.Acting.{Brings, DeedsActIn, IsDue, IsOrderly, KnowsForgotten}
@@ -10,6 +10,9 @@ use Rattle.sfx_model.specs.Members.{Member}
 use Rattle.sfx_model.specs.Rules.{skip_rules}
 use Rattle.sfx_model.specs.Session.{applied}
 use Rattle.sfx_model.specs.World.{World}
+use Rattle.sfx_apply.specs.Fault.{IsNotAhead, TellsAhead}
+use Rattle.sfx_apply.specs.declared.apply_fault.ApplyFault.{ApplyFault}
+use Rattle.sfx_apply.specs.declared.apply_fault.ApplyFault.TheVariants.{Ahead, Provider, Memory}
 use Rattle.sfx_model.proofs.Concluding.{batch_acts}
 use Rattle.sfx_model.proofs.Due.{due_from}
 use Rattle.sfx_model.proofs.Most.{none_ahead}
@@ -53,6 +56,21 @@ brought_not_ahead w units tick source m b ahead brings = no_tick (sym ahead ∙ 
   where
     no_tick : Some tick ≡ None → ⊥
     no_tick e = cc
+
+-- What is told of a destination that a source brings a batch is not that it is ahead.
+pub told_not_ahead :
+    (w : World) (units clock : ℕ) (source m : Member) (b : Batch) (e : ApplyFault)
+    → TellsAhead {T = Unit {0}} (ahead_of m b.made_with b.forgotten) clock (Err e) → Brings w units source m b → IsNotAhead {T = Unit {0}} (Err e)
+told_not_ahead w units clock source m b (Ahead tick own) told brings = brought_not_ahead w units tick source m b told.0 brings
+told_not_ahead w units clock source m b Provider told brings = tt
+told_not_ahead w units clock source m b Memory told brings = tt
+
+-- A fault that does not tell that the replica is ahead agrees with whatever it is.
+pub tells_other :
+    (ahead : Option ℕ) (clock : ℕ) (e : ApplyFault) → IsNotAhead {T = Unit {0}} (Err e) → TellsAhead {T = Unit {0}} ahead clock (Err e)
+tells_other ahead clock (Ahead tick own) other = absurd other
+tells_other ahead clock Provider other = tt
+tells_other ahead clock Memory other = tt
 
 -- The state that comes of the batch, by what is read of the replica before.
 pub read_state :

@@ -27,7 +27,7 @@ use Rattle.sfx_model.specs.Rules.{skip_rules}
 use Rattle.sfx_model.proofs.Learned.{laid_other}
 use Rattle.sfx_provider.specs.Commit.{CommitData, committed}
 use Rattle.sfx_provider.proofs.Commits.{commits_consistent, stored}
-use Rattle.sfx_apply.specs.Turns.{WorkData, destination, draft_now, plan_at}
+use Rattle.sfx_apply.specs.Turns.{WorkData, destination, draft_now, is_free_or_none, plan_at}
 use Rattle.sfx_apply.specs.Work.{FitsSides, Waits}
 use Rattle.sfx_apply.proofs.Drafts.{IsWholeHere}
 use Rattle.sfx_apply.proofs.Plans.{change_draft}
@@ -96,6 +96,13 @@ abbrev pub settled : ℕ → List MemberItem → ItemId → Option (List ℕ) �
 settled units items i None draft = draft
 settled units items i (Some name) draft = if is_free items i name then draft else all_left units
 
+-- It is so by whether the name is free, where there is one.
+settled_free :
+    (units : ℕ) (items : List MemberItem) (i : ItemId) (name : Option (List ℕ)) (draft : Draft)
+    → (if is_free_or_none items i name then draft else all_left units) ≡ settled units items i name draft
+settled_free units items i None draft = refl
+settled_free units items i (Some name) draft = refl
+
 plan_settled :
     (units : ℕ) (items : List MemberItem) (i : ItemId) (name : Option (List ℕ)) (draft : Draft)
     → (plan_named units SkipClash i items name draft).draft ≡ settled units items i name draft
@@ -142,15 +149,15 @@ drafted_valid units b change w m name good waits whole is =
 
 -- The draft that was found, as it is settled.
 pub found_settled :
-    (units : ℕ) (b : Batch) (change : MemberItem) (w : WorkData) (m : Member) (here : Option ItemState) (draft : Draft) (name : Option (List ℕ))
+    (units : ℕ) (b : Batch) (change : MemberItem) (w : WorkData) (m : Member) (here : Option ItemState) (draft : Draft)
     → IsConsistent units m → Waits units w.pending m → b.mode ≡ Normal
     → here ≡ state_of (destination units w m).items change.id → draft ≡ draft_now units b w.pending change here
-    → name ≡ drafted_name draft
-    → settled units (destination units w m).items change.id name draft ≡ (plan_at units b change (destination units w m)).draft
-found_settled units b change w m here draft name good waits normal there found named =
+    → (if is_free_or_none (destination units w m).items change.id (drafted_name draft) then draft else all_left units)
+    ≡ (plan_at units b change (destination units w m)).draft
+found_settled units b change w m here draft good waits normal there found =
     let is : draft ≡ draft_now units b w.pending change (state_of (destination units w m).items change.id) =
     found ∙ ap (draft_now units b w.pending change) there in
-    ap (λ (o : Option (List ℕ)). settled units (destination units w m).items change.id o draft) named
+    settled_free units (destination units w m).items change.id (drafted_name draft) draft
     ∙ ap (λ (d : Draft). settled units (destination units w m).items change.id (drafted_name d) d) is
     ∙ sym (plan_draft units b change w m good waits normal)
 

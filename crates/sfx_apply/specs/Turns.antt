@@ -1,7 +1,8 @@
 -- The turns of a batch: each change in its turn, and the commits between them.
-use Rattle.std.specs.Prelude.{ℕ, Bool, not, ◌&&◌, if◌then◌else◌, List, [], ◌∷◌, ◌++◌, map, length, Option, Some, None, IfSome}
+use Rattle.std.specs.Prelude.{ℕ, Bool, true, not, ◌&&◌, if◌then◌else◌, List, [], ◌∷◌, ◌++◌, map, length, Option, Some, None, IfSome}
 use Rattle.std.specs.Borrow.{Bor}
 use Rattle.std.specs.List.{filter}
+use Rattle.sfx_ids.specs.declared.item_id.ItemId.{ItemId}
 use Rattle.sfx_item.specs.declared.item.Item.{Item}
 use Rattle.sfx_model.specs.declared.apply_end.ApplyEnd.{ApplyEnd}
 use Rattle.sfx_model.specs.Batch.{Batch}
@@ -12,6 +13,7 @@ use Rattle.sfx_model.specs.Entry.{Change, Entry, entry_of, task_plan}
 use Rattle.sfx_model.specs.Items.{item_view}
 use Rattle.sfx_model.specs.Members.{ItemState, MemberItem, Member, state_of}
 use Rattle.sfx_model.specs.Moments.{divides}
+use Rattle.sfx_model.specs.Renamed.{is_free}
 use Rattle.sfx_model.specs.Rules.{skip_rules}
 use Rattle.sfx_model.specs.Session.{is_live_state, lefts, reduced, stop_before}
 use Rattle.sfx_model.specs.Sets.{Has}
@@ -46,6 +48,11 @@ plan_at units b change m = task_plan units skip_rules b m (Change change)
 abbrev pub draft_now : ℕ → Batch → CommitData → MemberItem → Option ItemState → Draft
 draft_now units b c change here =
     draft_of units skip_rules (class_of units c.knowledge b.made_with c.forgotten change here) (Some change.state) here
+
+-- Whether there is no name, or one that is free among the items for the one with this id.
+abbrev pub is_free_or_none : List MemberItem → ItemId → Option (List ℕ) → Bool
+is_free_or_none items i None = true
+is_free_or_none items i (Some name) = is_free items i name
 
 -- The work with the entry of one more change, by its plan at the destination.
 abbrev pub with_entry_of : ℕ → Batch → MemberItem → Plan → Member → WorkData → WorkData

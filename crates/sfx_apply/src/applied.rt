@@ -1,4 +1,4 @@
-ghost use Rattle.std.specs.Prelude.{◌≡◌, IfOk};
+ghost use Rattle.std.specs.Prelude.{◌≡◌, ◌∷◌, ◌++◌, [], IfOk, OnOk};
 
 use crate::Entry;
 use sfx_ids::Memory;
@@ -45,7 +45,19 @@ fn copied_entries<const U: usize>(
 {
     let mut copied = Vec::with_capacity(alloc, entries.len())?;
     for entry in entries {
-        copied.push(entry.copy(alloc)?)?;
+        push_copy(alloc, &mut copied, entry)?;
     }
     Ok(copied)
+}
+
+/// Adds an equal entry of its own memory.
+fn push_copy<const U: usize>(
+    alloc: Global,
+    copied: &mut Vec<Entry<U>>,
+    entry: &Entry<U>,
+) -> Result<(), Memory>
+    ensures { OnOk result (copied.new.items ≡ copied.old.items ++ entry.now ∷ []) }
+{
+    copied.push(entry.copy(alloc)?)?;
+    Ok(())
 }

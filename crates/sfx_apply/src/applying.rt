@@ -1,6 +1,6 @@
 ghost use Rattle.std.specs.Prelude.{◌≡◌, ◌≤◌, IfOk, IfSome, IsSome, OnOk, OnErr};
 ghost use Rattle.sfx_apply.specs.Fault.{HasCause, IsNotAhead, TellsAhead, Untouched};
-ghost use Rattle.sfx_apply.specs.Turns.{IsKeptIn, work_begun};
+ghost use Rattle.sfx_apply.specs.Turns.{IsKeptIn, in_turn, seen_views, work_begun};
 ghost use Rattle.sfx_apply.specs.Work.{KnowsNoMore, Waits};
 ghost use Rattle.sfx_model.specs.Acting.{Brings, DeedsActIn, IsOrderly};
 ghost use Rattle.sfx_model.specs.Deeds.{batch_deeds};
@@ -13,14 +13,16 @@ ghost use Rattle.sfx_model.specs.World.{World};
 ghost use Rattle.sfx_model.specs.declared.mode.Mode.TheVariants.{Normal};
 ghost use Rattle.sfx_provider.specs.Course.{CameInPart};
 ghost use Rattle.sfx_provider.specs.Fault.{HasCause as HasProviderCause};
+ghost use Rattle.sfx_provider.specs.Head.{head_of};
 
 use crate::ordering::in_turn;
 use crate::stepping::{change_step, range_step};
 use crate::work::Work;
 use crate::{Applied, ApplyFault, most_known};
 use sfx_batch::Batch;
+use sfx_item::Item;
 use sfx_model::ApplyEnd;
-use sfx_provider::{Provider, ProviderFault};
+use sfx_provider::{Head, Provider, ProviderFault};
 use std::alloc::Global;
 
 /// Applies a batch to the replica of a provider, where conflicts are skipped: what the source sent is brought,
@@ -92,18 +94,13 @@ fn begin<const U: usize, P: Provider<U>>(
     ensures no_more { OnOk result (KnowsNoMore U (P.state provider.new) batch.now) }
     ensures orderly { OnOk result (IsOrderly U (P.state provider.old)) }
     ensures ahead { TellsAhead (ahead_of (P.state provider.old) batch.now.made_with batch.now.forgotten) (P.state provider.old).clock result }
-    ensures not_ahead { (w : World) (source : Member) → Brings w U source (P.state provider.old) batch.now → IsNotAhead result }
     ensures told { IfSome (P.kept provider.new) (λ k. k ≡ P.state provider.new) }
     ensures untouched { Untouched P.state P.kept P.came provider.old provider.new }
     ensures cause { HasCause (P.faults provider.old) (P.faults provider.new) result }
 {
     batch.keeps();
     provider.keeps();
-    let head = match provider.head(alloc) {
-        Ok(head) => head,
-        Err(ProviderFault::Failed) => return Err(ApplyFault::Provider),
-        Err(ProviderFault::Memory) => return Err(ApplyFault::Memory),
-    };
+    let head = head_of(alloc, provider)?;
     let _in_form = head.forgotten.vector();
     let tick = most_known(&batch.made_with, &batch.forgotten, &head.id);
     let clock = head.clock;
@@ -115,6 +112,26 @@ fn begin<const U: usize, P: Provider<U>>(
         entries: Vec::new(alloc),
         budget,
     })
+}
+
+/// The head of the destination, which stays as it is, whatever is answered.
+///
+/// # Errors
+/// `Provider` and `Memory`.
+fn head_of<const U: usize, P: Provider<U>>(
+    alloc: Global,
+    provider: &mut P,
+) -> Result<Head<U>, ApplyFault>
+    ensures value { IfOk result (λ head. head ≡ head_of U (P.state provider.old)) }
+    ensures not_ahead { IsNotAhead result }
+    ensures untouched { Untouched P.state P.kept P.came provider.old provider.new }
+    ensures cause { HasCause (P.faults provider.old) (P.faults provider.new) result }
+{
+    match provider.head(alloc) {
+        Ok(head) => Ok(head),
+        Err(ProviderFault::Failed) => Err(ApplyFault::Provider),
+        Err(ProviderFault::Memory) => Err(ApplyFault::Memory),
+    }
 }
 
 /// Applies the changes of a batch, the deletions first and then the live ones, and learns the batch's range.
@@ -138,17 +155,45 @@ fn apply_changes<const U: usize, P: Provider<U>>(
     ensures kept { OnErr result (IsKeptIn (P.kept provider.new) (stops group (P.state provider.old) (applied U batch.now skip_rules work.entry.budget (P.state provider.old)).moments)) }
     ensures cause { HasProviderCause (P.faults provider.old) (P.faults provider.new) result }
 {
+    provider.keeps();
+    let turns = in_turn(alloc, batch)?;
+    let end = apply_turns(alloc, provider, batch, turns.as_slice(), group, &mut work)?;
+    Ok(done(work, end))
+}
+
+/// Applies the changes of a batch in these turns, learns the batch's range, and tells how the batch ended.
+fn apply_turns<const U: usize, P: Provider<U>>(
+    alloc: Global,
+    provider: &mut P,
+    batch: &Batch<U>,
+    turns: &[&Item<U>],
+    group: u64,
+    work: &mut Work<U>,
+) -> Result<ApplyEnd, ProviderFault>
+    requires told { IfSome (P.kept provider.old) (λ k. k ≡ P.state provider.old) }
+    requires normal { batch.now.mode ≡ Normal }
+    requires no_more { KnowsNoMore U (P.state provider.old) batch.now }
+    requires order { seen_views turns.now ≡ in_turn batch.now.changes }
+    requires group { 1 ≤ group }
+    requires begun { work.old ≡ work_begun U work.old.budget (P.state provider.old) }
+    ensures report { IfOk result (λ end. record { entries = work.new.entries; end = end } ≡ applied_batch (applied U batch.now skip_rules work.old.budget (P.state provider.old))) }
+    ensures state { OnOk result (P.state provider.new ≡ (applied U batch.now skip_rules work.old.budget (P.state provider.old)).member) }
+    ensures told { OnOk result (IfSome (P.kept provider.new) (λ k. k ≡ P.state provider.new)) }
+    ensures came { OnOk result (P.came provider.old provider.new (committed group (applied U batch.now skip_rules work.old.budget (P.state provider.old)).moments)) }
+    ensures fault { OnErr result (CameInPart P.came P.broke provider.old provider.new (committed group (applied U batch.now skip_rules work.old.budget (P.state provider.old)).moments)) }
+    ensures kept { OnErr result (IsKeptIn (P.kept provider.new) (stops group (P.state provider.old) (applied U batch.now skip_rules work.old.budget (P.state provider.old)).moments)) }
+    ensures cause { HasProviderCause (P.faults provider.old) (P.faults provider.new) result }
+{
     batch.keeps();
     provider.keeps();
-    let changes = in_turn(alloc, batch)?;
-    'changes: for (index, change) in changes.iter().enumerate() {
-        let more = index + 1 < changes.len();
-        if let Some(end) = change_step(alloc, provider, &mut work, batch, change, group, more)? {
-            return Ok(done(work, end));
+    'changes: for (index, change) in turns.iter().enumerate() {
+        let more = index + 1 < turns.len();
+        if let Some(end) = change_step(alloc, provider, work, batch, change, group, more)? {
+            return Ok(end);
         }
     }
-    range_step(alloc, provider, &mut work, batch)?;
-    Ok(done(work, ApplyEnd::Whole))
+    range_step(alloc, provider, work, batch)?;
+    Ok(ApplyEnd::Whole)
 }
 
 /// What is told of the work when it has ended so.

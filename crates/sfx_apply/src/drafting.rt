@@ -3,7 +3,7 @@ ghost use Rattle.std.specs.Prelude.{◌≡◌, ◌≤◌, Some, IfOk};
 ghost use Rattle.std.specs.Option.{option_map};
 ghost use Rattle.sfx_apply.specs.Turns.{draft_now};
 ghost use Rattle.sfx_apply.specs.Work.{FitsSides, live_cells};
-ghost use Rattle.sfx_model.specs.Class.{class_of};
+ghost use Rattle.sfx_model.specs.Class.{TakeWhole, Units, class_of};
 ghost use Rattle.sfx_model.specs.Draft.{draft_of, units_draft};
 ghost use Rattle.sfx_model.specs.Items.{item_view, state_view};
 ghost use Rattle.sfx_model.specs.Rules.{skip_rules};
@@ -68,12 +68,33 @@ fn draft_of<const U: usize>(
 {
     match class {
         Class::Known => Draft::all(alloc, Mark::Stays, None),
-        Class::TakeWhole => Draft::all(alloc, Mark::Taken, values_of(alloc, Some(change))?),
-        Class::Units(classes) => match (&change.state, live_row(local)) {
-            (State::Live(row), Some(own)) => units_draft(alloc, classes, row, own),
-            _ => unreachable!(),
-        },
+        Class::TakeWhole => whole_draft(alloc, change),
+        Class::Units(classes) => live_draft(alloc, classes, change, local),
         Class::WholeConflict => settle_whole(alloc, Some(change), local, Keep::Skip),
+    }
+}
+
+/// The draft of an item that is taken from the source as it is.
+fn whole_draft<const U: usize>(alloc: Global, change: &Item<U>) -> Result<Draft<U>, Memory>
+    ensures { IfOk result (λ draft. draft ≡ draft_of U skip_rules TakeWhole (Some (state_view change.now.state)) None) }
+{
+    let values = values_of(alloc, Some(change))?;
+    Draft::all(alloc, Mark::Taken, values)
+}
+
+/// The draft of an item that is live on both sides, of these classes.
+fn live_draft<const U: usize>(
+    alloc: Global,
+    classes: &UnitClasses<U>,
+    change: &Item<U>,
+    local: Option<&Item<U>>,
+) -> Result<Draft<U>, Memory>
+    requires { FitsSides (Units classes.now) (state_view change.now.state) (option_map (λ x. state_view x.now.state) local) }
+    ensures { IfOk result (λ draft. draft ≡ draft_of U skip_rules (Units classes.now) (Some (state_view change.now.state)) (option_map (λ x. state_view x.now.state) local.entry)) }
+{
+    match (&change.state, live_row(local)) {
+        (State::Live(row), Some(own)) => units_draft(alloc, classes, row, own),
+        _ => unreachable!(),
     }
 }
 

@@ -1,4 +1,4 @@
-ghost use Rattle.std.specs.Prelude.{◌≡◌, IfOk};
+ghost use Rattle.std.specs.Prelude.{◌≡◌, ◌∷◌, ◌++◌, [], IfOk, OnOk};
 
 use crate::Other;
 use crate::other::copied_name;
@@ -38,14 +38,33 @@ impl<const U: usize> Entry<U> {
     pub fn copy(&self, alloc: Global) -> Result<Self, Memory>
         ensures { IfOk result (λ copied. copied ≡ self.now) }
     {
+        let marks = self.marks.copy(alloc)?;
+        self.with_marks(alloc, marks)
+    }
+
+    /// The entry in its own memory, with these marks in the place of its own.
+    fn with_marks(&self, alloc: Global, marks: Marks<U>) -> Result<Self, Memory>
+        ensures { IfOk result (λ copied. copied ≡ record { item = self.now.item; kind = self.now.kind; marks = marks.entry; tick = self.now.tick; name = self.now.name; others = self.now.others }) }
+    {
+        let (name, others) = self.copied_rest(alloc)?;
         Ok(Entry {
             item: self.item,
             kind: self.kind,
-            marks: self.marks.copy(alloc)?,
+            marks,
             tick: self.tick,
-            name: copied_name(alloc, &self.name)?,
-            others: copied_others(alloc, self.others.as_slice())?,
+            name,
+            others,
         })
+    }
+
+    /// Equal values of the new name and of the other items, of their own memory.
+    fn copied_rest(&self, alloc: Global) -> Result<(Option<Name>, Vec<Other>), Memory>
+        ensures name { IfOk result (λ rest. rest.0 ≡ self.now.name) }
+        ensures others { IfOk result (λ rest. rest.1.items ≡ self.now.others) }
+    {
+        let name = copied_name(alloc, &self.name)?;
+        let others = copied_others(alloc, self.others.as_slice())?;
+        Ok((name, others))
     }
 }
 
@@ -55,7 +74,15 @@ fn copied_others(alloc: Global, others: &[Other]) -> Result<Vec<Other>, Memory>
 {
     let mut copied = Vec::with_capacity(alloc, others.len())?;
     for other in others {
-        copied.push(other.copy(alloc)?)?;
+        push_copy(alloc, &mut copied, other)?;
     }
     Ok(copied)
+}
+
+/// Adds an equal value of its own memory.
+fn push_copy(alloc: Global, copied: &mut Vec<Other>, other: &Other) -> Result<(), Memory>
+    ensures { OnOk result (copied.new.items ≡ copied.old.items ++ other.now ∷ []) }
+{
+    copied.push(other.copy(alloc)?)?;
+    Ok(())
 }

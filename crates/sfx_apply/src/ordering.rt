@@ -1,5 +1,5 @@
 //! The order in which the changes of a batch are applied.
-ghost use Rattle.std.specs.Prelude.{◌≡◌, IfOk, OnOk, ◌++◌, Bool, map};
+ghost use Rattle.std.specs.Prelude.{◌≡◌, IfOk, OnOk, ◌++◌, not};
 ghost use Rattle.std.specs.List.{filter};
 ghost use Rattle.sfx_apply.specs.Turns.{in_turn, seen_views};
 ghost use Rattle.sfx_model.specs.Items.{items_view, state_view};
@@ -28,17 +28,39 @@ fn ordered<'a, const U: usize>(
     ensures { IfOk result (λ turns. seen_views turns.items ≡ in_turn (items_view changes.now)) }
 {
     let mut turns = Vec::with_capacity(alloc, changes.len())?;
-    'dead: for change in changes {
+    add_dead(&mut turns, changes)?;
+    add_live(&mut turns, changes)?;
+    Ok(turns)
+}
+
+/// Adds the tombstones among the items.
+fn add_dead<'a, const U: usize>(
+    turns: &mut Vec<&'a Item<U>>,
+    changes: &'a [Item<U>],
+) -> Result<(), Memory>
+    ensures { OnOk result (seen_views turns.new.items ≡ seen_views turns.old.items ++ filter (λ x. not (is_live_state x.state)) (items_view changes.now)) }
+{
+    for change in changes {
         if !is_live(change) {
             turns.push(change)?;
         }
     }
-    'live: for change in changes {
+    Ok(())
+}
+
+/// Adds the live ones among the items.
+fn add_live<'a, const U: usize>(
+    turns: &mut Vec<&'a Item<U>>,
+    changes: &'a [Item<U>],
+) -> Result<(), Memory>
+    ensures { OnOk result (seen_views turns.new.items ≡ seen_views turns.old.items ++ filter (λ x. is_live_state x.state) (items_view changes.now)) }
+{
+    for change in changes {
         if is_live(change) {
             turns.push(change)?;
         }
     }
-    Ok(turns)
+    Ok(())
 }
 
 /// Whether the item is live.

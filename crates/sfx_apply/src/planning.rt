@@ -1,9 +1,12 @@
 //! What an entry is to do with a change at the destination.
-ghost use Rattle.std.specs.Prelude.{◌≡◌, [], IfOk};
+ghost use Rattle.std.specs.Prelude.{◌≡◌, ◌≤◌, ℕ, List, [], Some, if◌then◌else◌, IfOk};
 ghost use Rattle.std.specs.Option.{option_map};
-ghost use Rattle.sfx_apply.specs.Turns.{destination, plan_at};
+ghost use Rattle.sfx_apply.specs.Turns.{destination, is_free_or_none, plan_at};
 ghost use Rattle.sfx_apply.specs.Work.{Waits};
+ghost use Rattle.sfx_item.specs.Name.{IsName};
+ghost use Rattle.sfx_model.specs.Clashes.{drafted_name};
 ghost use Rattle.sfx_model.specs.Consistent.{IsItemState};
+ghost use Rattle.sfx_model.specs.Draft.{all_left};
 ghost use Rattle.sfx_model.specs.Items.{item_view, state_view};
 ghost use Rattle.sfx_model.specs.Members.{state_of};
 ghost use Rattle.sfx_model.specs.declared.mode.Mode.TheVariants.{Normal};
@@ -13,6 +16,7 @@ use crate::drafting::drafted;
 use crate::naming::{drafted_name, is_free};
 use crate::work::Work;
 use sfx_batch::Batch;
+use sfx_ids::{ItemId, Memory};
 use sfx_item::Item;
 use sfx_provider::{Provider, ProviderFault};
 use sfx_settle::{ClashRule, Draft, settle_clash};
@@ -40,11 +44,41 @@ pub(crate) fn planned<const U: usize, P: Provider<U>>(
 {
     provider.keeps();
     let draft = drafted(alloc, work, batch, change, local)?;
-    let Some(name) = drafted_name(alloc, &draft)? else {
-        return Ok(draft);
-    };
-    if is_free(alloc, provider, work, &name, &change.id)? {
+    let free = has_free_name(alloc, provider, work, &draft, &change.id)?;
+    Ok(settled(alloc, draft, free)?)
+}
+
+/// Whether the drafted item with this id has no name at the destination, or one that is free there.
+fn has_free_name<const U: usize, P: Provider<U>>(
+    alloc: Global,
+    provider: &mut P,
+    work: &Work<U>,
+    draft: &Draft<U>,
+    id: &ItemId,
+) -> Result<bool, ProviderFault>
+    requires waits { Waits U work.now.pending (P.state provider.old) }
+    requires name { (name : List ℕ) → drafted_name draft.now ≡ Some name → IsName name }
+    ensures value { IfOk result (λ free. free ≡ is_free_or_none (destination U work.now (P.state provider.old)).items id.now (drafted_name draft.now)) }
+    ensures state { P.state provider.new ≡ P.state provider.old }
+    ensures kept { P.kept provider.new ≡ P.kept provider.old }
+    ensures came { P.came provider.old provider.new [] }
+    ensures cause { HasCause (P.faults provider.old) (P.faults provider.new) result }
+{
+    provider.keeps();
+    let drafted = drafted_name(alloc, draft)?;
+    match drafted {
+        Some(name) => is_free(alloc, provider, work, &name, id),
+        None => Ok(true),
+    }
+}
+
+/// The draft where the name is free, and else that in which all is left alone.
+fn settled<const U: usize>(alloc: Global, draft: Draft<U>, free: bool) -> Result<Draft<U>, Memory>
+    requires { 1 ≤ U }
+    ensures { IfOk result (λ settled. settled ≡ (if free then draft.entry else all_left U)) }
+{
+    if free {
         return Ok(draft);
     }
-    Ok(settle_clash(alloc, draft, ClashRule::Skip)?)
+    settle_clash(alloc, draft, ClashRule::Skip)
 }

@@ -1,5 +1,5 @@
 //! The items of which units are taken.
-ghost use Rattle.std.specs.Prelude.{◌≡◌, ◌≤◌, if◌then◌else◌, length, IfOk};
+ghost use Rattle.std.specs.Prelude.{◌≡◌, ◌≤◌, ◌∷◌, ◌++◌, [], if◌then◌else◌, length, IfOk, OnOk};
 ghost use Rattle.std.specs.Option.{option_map};
 ghost use Rattle.sfx_apply.specs.Work.{taken_cells, taken_state};
 ghost use Rattle.sfx_model.specs.Entry.{is_taken};
@@ -60,9 +60,23 @@ fn taken_cells<const U: usize>(
 {
     let mut cells = Vec::with_capacity(alloc, U)?;
     for index in 0..U {
-        cells.push(taken_cell(alloc, marks[index], &seen[index], &here[index])?)?;
+        push_cell(alloc, &mut cells, marks[index], &seen[index], &here[index])?;
     }
     Ok(cells)
+}
+
+/// Adds the cell from the source where it is taken, and else the one here.
+fn push_cell(
+    alloc: Global,
+    cells: &mut Vec<Cell>,
+    mark: Mark,
+    seen: &Cell,
+    here: &Cell,
+) -> Result<(), Memory>
+    ensures { OnOk result (cells.new.items ≡ cells.old.items ++ (if is_taken mark then seen.now else here.now) ∷ []) }
+{
+    cells.push(taken_cell(alloc, mark, seen, here)?)?;
+    Ok(())
 }
 
 /// The cell from the source where it is taken, and else the one here.

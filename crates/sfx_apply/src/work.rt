@@ -1,7 +1,7 @@
 ghost use Rattle.std.specs.Prelude.{◌≡◌, ◌≤◌, ◌∷◌, ◌++◌, [], None, length, IfOk, OnOk};
 ghost use Rattle.std.specs.Option.{option_map};
 ghost use Rattle.sfx_apply.specs.Turns.{with_range_of};
-ghost use Rattle.sfx_apply.specs.Work.{with_marks};
+ghost use Rattle.sfx_apply.specs.Work.{put_taken, taken_state, with_marks};
 ghost use Rattle.sfx_ids.specs.declared.cut.Cut.TheVariants.{After, At};
 ghost use Rattle.sfx_knowledge.specs.Knowledge.{IsKnowledge};
 ghost use Rattle.sfx_model.specs.Entry.{kind_of_marks, left_from};
@@ -79,27 +79,49 @@ impl<const U: usize> Work<U> {
         ensures entries { OnOk result (self.new.entries ≡ self.old.entries ++ record { item = change.now.id; kind = kind_of_marks marks.entry; marks = marks.entry; tick = None; name = None; others = [] } ∷ []) }
         ensures budget { OnOk result (self.new.budget ≡ reduced self.old.budget 1) }
     {
-        let knowledge = self.learned(alloc, batch, &change.id, &marks)?;
-        if takes(&marks) {
-            let state = taken_state(alloc, &marks, change, local)?;
-            put(
-                &mut self.pending.puts,
-                Item {
-                    id: change.id,
-                    state,
-                },
-            )?;
-        }
-        self.pending.knowledge = knowledge;
+        self.learn_item(alloc, batch, &change.id, &marks)?;
+        self.take(alloc, change, local, &marks)?;
         self.budget = one_less(self.budget);
-        self.entries.push(Entry {
-            item: change.id,
-            kind: kind_of(&marks),
-            marks,
-            tick: None,
-            name: None,
-            others: Vec::new(alloc),
-        })?;
+        self.entries.push(entry_of(alloc, &change.id, marks))?;
+        Ok(())
+    }
+
+    /// Learns what the source knows of an item, but for the units that are left alone.
+    fn learn_item(
+        &mut self,
+        alloc: Global,
+        batch: &Batch<U>,
+        id: &ItemId,
+        marks: &Marks<U>,
+    ) -> Result<(), Memory>
+        requires some { 1 ≤ U }
+        requires form { IsKnowledge U self.old.pending.knowledge }
+        ensures pending { OnOk result (self.new.pending ≡ record { clock = self.old.pending.clock; knowledge = learned_known U (At id.now) (After id.now) (left_from id.now 0 marks.now) self.old.pending.knowledge batch.now.made_with; forgotten = self.old.pending.forgotten; puts = self.old.pending.puts; drops = self.old.pending.drops }) }
+        ensures entries { OnOk result (self.new.entries ≡ self.old.entries) }
+        ensures budget { OnOk result (self.new.budget ≡ self.old.budget) }
+    {
+        let knowledge = self.learned(alloc, batch, id, marks)?;
+        self.pending.knowledge = knowledge;
+        Ok(())
+    }
+
+    /// What is taken of the change waits to be put, where a unit of it is.
+    fn take(
+        &mut self,
+        alloc: Global,
+        change: &Item<U>,
+        local: Option<&Item<U>>,
+        marks: &Marks<U>,
+    ) -> Result<(), Memory>
+        requires some { 1 ≤ U }
+        ensures pending { OnOk result (self.new.pending ≡ record { clock = self.old.pending.clock; knowledge = self.old.pending.knowledge; forgotten = self.old.pending.forgotten; puts = put_taken U marks.now (item_view change.now) (option_map (λ x. state_view x.now.state) local.entry) self.old.pending.puts; drops = self.old.pending.drops }) }
+        ensures entries { OnOk result (self.new.entries ≡ self.old.entries) }
+        ensures budget { OnOk result (self.new.budget ≡ self.old.budget) }
+    {
+        if takes(marks) {
+            let item = taken_item(alloc, marks, change, local)?;
+            put(&mut self.pending.puts, item)?;
+        }
         Ok(())
     }
 
@@ -148,6 +170,36 @@ impl<const U: usize> Work<U> {
         batch.keeps();
         let pending = &self.pending;
         learned_item(alloc, &pending.knowledge, &batch.made_with, id, marks)
+    }
+}
+
+/// The item of a change of which these marks take units, as it becomes.
+fn taken_item<const U: usize>(
+    alloc: Global,
+    marks: &Marks<U>,
+    change: &Item<U>,
+    local: Option<&Item<U>>,
+) -> Result<Item<U>, Memory>
+    requires { 1 ≤ U }
+    ensures { IfOk result (λ item. item_view item ≡ record { id = change.now.id; state = taken_state U marks.now (state_view change.now.state) (option_map (λ x. state_view x.now.state) local.entry) }) }
+{
+    Ok(Item {
+        id: change.id,
+        state: taken_state(alloc, marks, change, local)?,
+    })
+}
+
+/// The entry of an item with these marks.
+fn entry_of<const U: usize>(alloc: Global, id: &ItemId, marks: Marks<U>) -> Entry<U>
+    ensures { result ≡ record { item = id.now; kind = kind_of_marks marks.entry; marks = marks.entry; tick = None; name = None; others = [] } }
+{
+    Entry {
+        item: *id,
+        kind: kind_of(&marks),
+        marks,
+        tick: None,
+        name: None,
+        others: Vec::new(alloc),
     }
 }
 

@@ -2,6 +2,7 @@ ghost use Rattle.std.specs.Prelude.{◌≡◌, ◌↔◌, IsTrue, IfOk};
 ghost use Rattle.sfx_ids.specs.declared.cut.Cut.TheVariants.{End};
 ghost use Rattle.sfx_knowledge.specs.Knowledge.{HasTicks, IsKnowledge, projected, tick_at};
 ghost use Rattle.sfx_model.specs.Batch.{IsBatch};
+ghost use Rattle.sfx_model.specs.Items.{items_view};
 
 use sfx_ids::{Cut, ItemId, Memory, ReplicaId};
 use sfx_item::Item;
@@ -74,15 +75,42 @@ impl<const U: usize> Batch<U> {
     pub fn copy(&self, alloc: Global) -> Result<Self, Memory>
         ensures { IfOk result (λ copy. copy ≡ self.now) }
     {
+        let made_with = self.made_with.copy(alloc)?;
+        let forgotten = self.forgotten.copy(alloc)?;
+        self.copy_with(alloc, made_with, forgotten)
+    }
+
+    /// The batch in its own memory, with these equal values of its knowledge and of what it had forgotten.
+    fn copy_with(
+        &self,
+        alloc: Global,
+        made_with: Knowledge<U>,
+        forgotten: Forgotten,
+    ) -> Result<Self, Memory>
+        requires made_with { made_with ≡ self.now.made_with }
+        requires forgotten { forgotten ≡ self.now.forgotten }
+        ensures { IfOk result (λ copy. copy ≡ self.now) }
+    {
+        let (changes, here) = self.copied_lists(alloc)?;
         Ok(Batch {
             source: self.source,
             mode: self.mode,
             from: self.from,
             to: self.to,
-            made_with: self.made_with.copy(alloc)?,
-            forgotten: self.forgotten.copy(alloc)?,
-            changes: copies(alloc, self.changes.as_slice())?,
-            here: Vec::from_slice(alloc, self.here.as_slice())?,
+            made_with,
+            forgotten,
+            changes,
+            here,
         })
+    }
+
+    /// Equal lists of the changes and of the ids, of their own memory.
+    fn copied_lists(&self, alloc: Global) -> Result<(Vec<Item<U>>, Vec<ItemId>), Memory>
+        ensures changes { IfOk result (λ lists. items_view lists.0.items ≡ self.now.changes) }
+        ensures here { IfOk result (λ lists. lists.1.items ≡ self.now.here) }
+    {
+        let changes = copies(alloc, self.changes.as_slice())?;
+        let here = Vec::from_slice(alloc, self.here.as_slice())?;
+        Ok((changes, here))
     }
 }

@@ -1,12 +1,13 @@
 use Rattle.std.proofs.lemmas.Result.{err_from_is_err_and}
-use Rattle.sfx_apply.proofs.Bringing.{brought_acts, read_state}
+use Rattle.sfx_apply.proofs.Bringing.{brought_acts, read_state, told_not_ahead}
 use Rattle.sfx_apply.proofs.Looping.{batch_fault}
 use Rattle.sfx_apply.proofs.applying.apply_batch.Goals as goal
 
 pub returns-in_err-work-clause-not_ahead : goal.returns-in_err-work-clause-not_ahead
 returns-in_err-work-clause-not_ahead g c =
     let exit = err_from_is_err_and c.from_residual.result c.from_residual.ensures.1 in
-    rw (exit.1, exit.2) c.in_err-work.ensures.not_ahead
+    let m = g.P.Provider.state c.args.provider.now in
+    λ w source brings. rw (exit.1, exit.2) (told_not_ahead w g.row.U m.clock source m c.args.batch.now _ c.in_err-work.ensures.ahead brings)
 
 pub returns-in-Ok-clause-acts : goal.returns-in-Ok-clause-acts
 returns-in-Ok-clause-acts g c =

@@ -1,8 +1,18 @@
 use Rattle.std.proofs.Common.{ap, sym, ◌∙◌}
 use Rattle.sfx_model.specs.Draft.{Draft}
 use Rattle.sfx_model.specs.Items.{item_view}
-use Rattle.sfx_apply.proofs.Entering.{read_turn}
+use Rattle.sfx_apply.proofs.Entering.{read_turn, spent_turn}
 use Rattle.sfx_apply.proofs.turn.turn.Goals as goal
+
+pub returns-then-is_spent-clause-value : goal.returns-then-is_spent-clause-value
+returns-then-is_spent-clause-value g c =
+    (spent_turn g.row.U c.args.batch.now (item_view c.args.change.now) c.args.work.now (g.P.Provider.state c.args.provider.now)
+    (sym c.is_spent.ensures ∙ c.if-is_spent.true)).0
+
+pub returns-then-is_spent-clause-work : goal.returns-then-is_spent-clause-work
+returns-then-is_spent-clause-work g c =
+    (spent_turn g.row.U c.args.batch.now (item_view c.args.change.now) c.args.work.now (g.P.Provider.state c.args.provider.now)
+    (sym c.is_spent.ensures ∙ c.if-is_spent.true)).1
 
 pub returns-clause-value : goal.returns-clause-value
 returns-clause-value g c =

@@ -4,13 +4,13 @@ use Rattle.sfx_model.specs.Rules.{skip_rules}
 use Rattle.sfx_model.specs.Session.{applied}
 use Rattle.sfx_apply.specs.Turns.{seen_views}
 use Rattle.sfx_apply.proofs.Standing.{Arrived, Stands}
-use Rattle.sfx_apply.proofs.applying.apply_changes.Given as goal
+use Rattle.sfx_apply.proofs.applying.apply_turns.Given as goal
 
 -- The work stands between the state at the beginning and what comes of the batch, and the provider came by
 -- what is committed so far.
 abbrev pub invariant-changes : goal.invariant-changes
 invariant-changes g l = let p = g.P.Provider in record {
-  stands : Stands (Arrived p.came l.fn.provider l.provider (p.state l.fn.provider) (p.state l.provider)) g.row.U l.batch l.group (applied g.row.U l.batch skip_rules l.fn.work.budget (p.state l.fn.provider)) (p.state l.provider) l.work (drop l.index (seen_views l.change-items));
+  stands : Stands (Arrived p.came l.fn.provider l.provider (p.state l.fn.provider) (p.state l.provider)) g.row.U l.batch l.group (applied g.row.U l.batch skip_rules l.fn.work.budget (p.state l.fn.provider)) (p.state l.provider) l.work (drop l.index (seen_views l.turns));
   told : IfSome (p.kept l.provider) (λ k. k ≡ p.state l.provider);
   faults : p.faults l.fn.provider ≤ p.faults l.provider;
 }
