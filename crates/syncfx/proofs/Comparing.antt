@@ -137,11 +137,19 @@ segments_decided ps qs = (segments_is ps qs, (λ same. ap (λ x. same_segments p
 pub items_decided : (xs ys : List MemberItem) → (same_items xs ys ≡ true → xs ≡ ys) × (xs ≡ ys → same_items xs ys ≡ true)
 items_decided xs ys = (items_is xs ys, (λ same. ap (λ x. same_items xs x) (sym same) ∙ items_self xs))
 
+-- what the comparison with all that a member knows answers
+pub compared_knowledge : (units : ℕ) (n : Member) (one other : Known) (k : Bool) → other ≡ all_known units n
+    → ((k ≡ true → one ≡ other) × (one ≡ other → k ≡ true)) → k ≡ same_segments one (all_known units n)
+compared_knowledge units n one other k is_other same =
+    same_from_decides k (same_segments one other) same (segments_decided one other) ∙ ap (λ x. same_segments one x) is_other
+
+-- what the comparison of what they hold answers
+pub compared_items : (m n : Member) (i : Bool)
+    → ((i ≡ true → live_items m.items ≡ live_items n.items) × (live_items m.items ≡ live_items n.items → i ≡ true)) → i ≡ hold_same m n
+compared_items m n i same = same_from_decides i (hold_same m n) same (items_decided (live_items m.items) (live_items n.items))
+
 -- what both comparisons answer
-pub compared : (units : ℕ) (m n : Member) (one other : Known) (k i : Bool) → one ≡ all_known units m → other ≡ all_known units n
-    → ((k ≡ true → one ≡ other) × (one ≡ other → k ≡ true))
-    → ((i ≡ true → live_items m.items ≡ live_items n.items) × (live_items m.items ≡ live_items n.items → i ≡ true)) → Compared k i ≡ Compared (know_same units m n) (hold_same m n)
-compared units m n one other k i is_one is_other knowledge items =
-    let first : k ≡ know_same units m n = same_from_decides k (same_segments one other) knowledge (segments_decided one other) ∙ ap (λ x. same_segments x other) is_one ∙ ap (λ x. same_segments (all_known units m) x) is_other in
-    let second : i ≡ hold_same m n = same_from_decides i (hold_same m n) items (items_decided (live_items m.items) (live_items n.items)) in
-    rw (first, second) refl
+pub compared : (units count : ℕ) (m n : Member) (k i : Bool) → units ≡ count → k ≡ know_same count m n → i ≡ hold_same m n
+    → Compared k i ≡ Compared (know_same units m n) (hold_same m n)
+compared units count m n k i same knowledge items =
+    ap (λ x. Compared x i) knowledge ∙ (ap (λ u. Compared (know_same u m n) i) (sym same) ∙ ap (λ x. Compared (know_same units m n) x) items)

@@ -1,9 +1,8 @@
 -- A script that is played in part.
-use Rattle.std.proofs.Common.{◌≡◌, ◌==◌, ℕ, ◌+◌, ◌<◌, ◌≤◌, All, Result, Ok, Err, OnOk, OnErr, get_or, Bool, true, false, ◌||◌, Option, Some, None, List, [], ◌∷◌, ◌++◌, length, take, drop, refl, sym, ap, ◌∙◌, append_assoc, append-nil}
+use Rattle.std.proofs.Common.{◌≡◌, ◌==◌, ℕ, ◌+◌, ◌<◌, ◌≤◌, All, Result, Ok, Err, OnErr, get_or, Bool, true, false, ◌||◌, Option, Some, None, List, [], ◌∷◌, ◌++◌, length, take, drop, refl, sym, ap, ◌∙◌, append_assoc, append-nil}
 use Rattle.std.proofs.lemmas.List.{take-append-drop, take_all, drop_more}
 use Rattle.std.proofs.lemmas.List.Splits.{slice_split_at, slice_split_none}
 use Rattle.sfx_outside.proofs.SinkLemmas.{Adds-append, AddsFront-append, AddsFront-longer}
-use Rattle.std.specs.Result.{is_err}
 use Rattle.sfx_outside.specs.Sink.{Adds, AddsFront}
 use Rattle.sfx_model.specs.Members.{Community}
 use Rattle.syncfx.specs.declared.reply.Reply.{Reply}
@@ -38,22 +37,16 @@ pub written-line : (c : Community) (line : List ℕ) → is_passed line ≡ fals
     → replies_text (turns c (line ∷ [])).replies ≡ reply_text (turn c line).reply
 written-line c line here = rw here (append-nil (reply_text (turn c line).reply))
 
--- a front of its reply was written
-pub front-line : (before now : Option (List ℕ)) (c : Community) (line text : List ℕ) (reply : Reply) (passed : Bool)
-    → passed ≡ is_passed line → passed ≡ false → reply ≡ (turn c line).reply → text ≡ reply_text reply → AddsFront before now text
-    → AddsFront before now (replies_text (turns c (line ∷ [])).replies)
-front-line before now c line text reply passed tested here is written front =
-    rw (written-line c line (sym tested ∙ here), ← is, ← written) front
+-- where a front of its reply was written
+pub front-line : {T E : Type 0} (r : Result T E) (before now : Option (List ℕ)) (c : Community) (line : List ℕ) (reply : Reply)
+    → is_passed line ≡ false → reply ≡ (turn c line).reply → OnErr r (AddsFront before now (reply_text reply))
+    → OnErr r (AddsFront before now (replies_text (turns c (line ∷ [])).replies))
+front-line r before now c line reply here is front = rw (written-line c line here, ← is) front
 
 -- a fact that holds anyhow holds where there is an error
 pub on_err_anyhow : {T E P : Type 0} (r : Result T E) → P → OnErr r P
 on_err_anyhow (Ok x) fact = tt
 on_err_anyhow (Err e) fact = fact
-
--- what was appended to nothing
-pub ok_written : {T E : Type 0} (r : Result T E) (new old text : List ℕ) → OnOk r (new ≡ old ++ text) → is_err r ≡ false → old ≡ [] → new ≡ text
-ok_written (Ok x) new old text appended fine empty = appended ∙ ap (λ xs. xs ++ text) empty
-ok_written (Err e) new old text appended fine empty = absurd (cc)
 
 -- the first line, and then the others from where it left the state
 pub turns-split : (c : Community) (line : List ℕ) (lines : List (List ℕ))

@@ -4,6 +4,8 @@ ghost use Rattle.sfx_model.specs.Members.{NamedMember};
 ghost use Rattle.sfx_script.specs.Limits.{AreWithinLimits, IsLimited};
 ghost use Rattle.syncfx.specs.declared.reply.Reply.TheVariants.{Refused, Synced};
 ghost use Rattle.syncfx.specs.declared.reason.Reason.TheVariants.{Edit, NoReplica, Session};
+ghost use Rattle.syncfx.specs.Comparing.{know_same, same_segments};
+ghost use Rattle.syncfx.specs.Listing.{all_known};
 ghost use Rattle.syncfx.specs.Reply.{is_memory};
 ghost use Rattle.syncfx.specs.Report.{report_text};
 ghost use Rattle.syncfx.specs.Turn.{is_built, leaves_changes, leaves_names};
@@ -16,6 +18,7 @@ use crate::report::told;
 use indexmap::IndexMap;
 use sfx_ids::{ItemId, Memory, ReplicaId, UnitId, Version};
 use sfx_item::Value;
+use sfx_knowledge::Knowledge;
 use sfx_model::{ClashRule, Keep};
 use sfx_outside::Text;
 use sfx_replica::{EditFault, Replica};
@@ -239,7 +242,7 @@ impl Community {
         let Some(other) = self.find(&second) else {
             return Ok(no_replica(second));
         };
-        let knowledge = one.knowledge(alloc)?.same(&other.knowledge(alloc)?);
+        let knowledge = know_same(alloc, one, other)?;
         let items = one.same_live(other);
         Ok(Reply::Compared { knowledge, items })
     }
@@ -321,6 +324,27 @@ impl Community {
     {
         self.members.get(name)
     }
+}
+
+/// Whether both replicas know the same.
+fn know_same(alloc: Global, one: &Replica<UNITS>, other: &Replica<UNITS>) -> Result<bool, Memory>
+    ensures { IfOk result (λ same. same ≡ know_same UNITS one.now other.now) }
+{
+    let knowledge = one.knowledge(alloc)?;
+    is_all_known(alloc, &knowledge, other)
+}
+
+/// Whether the knowledge is all that the replica knows.
+fn is_all_known(
+    alloc: Global,
+    knowledge: &Knowledge<UNITS>,
+    replica: &Replica<UNITS>,
+) -> Result<bool, Memory>
+    ensures { IfOk result (λ same. same ≡ same_segments knowledge.now (all_known UNITS replica.now)) }
+{
+    let all = replica.knowledge(alloc)?;
+    let is_same = knowledge.same(&all);
+    Ok(is_same)
 }
 
 /// The refusal of a line that names no replica.

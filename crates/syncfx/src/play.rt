@@ -3,11 +3,14 @@ ghost use Rattle.std.specs.Prelude.{◌≡◌, ◌<◌, ◌≤◌, ◌⊎◌, []
 ghost use Rattle.sfx_outside.specs.Fault.{HasRisen};
 ghost use Rattle.sfx_outside.specs.Sink.{Adds, AddsFront};
 ghost use Rattle.sfx_script.specs.Script.{is_passed, lines_of};
+ghost use Rattle.syncfx.specs.Reply.{is_refusal, reply_text};
 ghost use Rattle.syncfx.specs.Run.{lines_left};
 ghost use Rattle.syncfx.specs.Run.{has_refusal, played, played_text, replies_text};
 ghost use Rattle.syncfx.specs.Turn.{turns};
 
 use crate::community::Community;
+use crate::reply::Reply;
+use sfx_ids::Memory;
 use sfx_outside::{Sink, SinkFault, write_all};
 use std::alloc::Global;
 
@@ -66,15 +69,34 @@ fn answer<B: Sink>(
     if is_passed(line) {
         return Ok(false);
     }
-    let Ok(reply) = community.turn(alloc, line) else {
+    match community.turn(alloc, line) {
+        Ok(reply) => write_reply(alloc, &reply, out),
+        Err(_) => Err(SinkFault::Memory),
+    }
+}
+
+/// Writes the reply, and says whether it refuses its line.
+fn write_reply<B: Sink>(alloc: Global, reply: &Reply, out: &mut B) -> Result<bool, SinkFault>
+    ensures text { OnOk result (Adds (B.held out.old) (B.held out.new) (reply_text reply.now)) }
+    ensures refusal { IfOk result (λ refused. refused ≡ is_refusal reply.now) }
+    ensures err { OnErr result (AddsFront (B.held out.old) (B.held out.new) (reply_text reply.now)) }
+    ensures faults { B.faults out.old ≤ B.faults out.new }
+    ensures cause { IsErrOf result SinkFault.Failed → HasRisen (B.faults out.old) (B.faults out.new) }
+{
+    let Ok(text) = text_of(alloc, reply) else {
         return Err(SinkFault::Memory);
     };
-    let mut text = Vec::new(alloc);
-    if reply.write(&mut text).is_err() {
-        return Err(SinkFault::Memory);
-    }
     write_all(out, &text)?;
     Ok(reply.is_refusal())
+}
+
+/// The text of the reply. The one error is want of memory.
+fn text_of(alloc: Global, reply: &Reply) -> Result<Vec<u8>, Memory>
+    ensures { IfOk result (λ text. text.items ≡ reply_text reply.now) }
+{
+    let mut text = Vec::new(alloc);
+    reply.write(&mut text)?;
+    Ok(text)
 }
 
 /// Whether the line is passed over: it is empty, or begins with `#`.

@@ -1,8 +1,10 @@
 ghost use Rattle.std.specs.Prelude.{◌≡◌, ◌++◌, OnOk};
+ghost use Rattle.sfx_replica.specs.declared.edit_fault.EditFault.TheVariants.{Clash};
+ghost use Rattle.syncfx.specs.declared.reason.Reason.TheVariants.{NoReplica};
 ghost use Rattle.syncfx.specs.Reply.{fault_text, reason_text, session_text, with_number, with_numbers};
 
 use crate::text::{append, write_number};
-use sfx_ids::{Memory, write_item};
+use sfx_ids::{ItemId, Memory, write_item};
 use sfx_outside::Text;
 use sfx_replica::EditFault;
 use sfx_session::SessionFault;
@@ -47,11 +49,7 @@ impl Reason {
             Reason::NoUnits => append(out, b"NoUnits"),
             Reason::NameTaken => append(out, b"NameTaken"),
             Reason::IdTaken => append(out, b"IdTaken"),
-            Reason::NoReplica(name) => {
-                append(out, b"NoReplica(")?;
-                append(out, name.as_str().as_bytes())?;
-                append(out, b")")
-            }
+            Reason::NoReplica(name) => write_no_replica(out, name),
             Reason::BadCount { given, units } => {
                 write_with_numbers(out, b"BadCount(", *given as u64, *units as u64)
             }
@@ -59,6 +57,15 @@ impl Reason {
             Reason::Session(fault) => write_session_fault(out, fault),
         }
     }
+}
+
+/// Appends that no replica has this name.
+fn write_no_replica(out: &mut Vec<u8>, name: &Text) -> Result<(), Memory>
+    ensures { OnOk result (out.new.items ≡ out.old.items ++ reason_text (NoReplica name.now)) }
+{
+    append(out, b"NoReplica(")?;
+    append(out, name.as_str().as_bytes())?;
+    append(out, b")")
 }
 
 /// Appends the text of the refusal of an edit.
@@ -70,15 +77,20 @@ fn write_fault(out: &mut Vec<u8>, fault: &EditFault) -> Result<(), Memory>
         EditFault::Deleted => append(out, b"Deleted"),
         EditFault::BadUnit { k, u } => write_with_numbers(out, b"BadUnit(", *k as u64, *u as u64),
         EditFault::BadName(at) => write_with_number(out, b"BadName(", *at as u64),
-        EditFault::Clash(item) => {
-            append(out, b"Clash(")?;
-            write_item(out, item)?;
-            append(out, b")")
-        }
+        EditFault::Clash(item) => write_clash(out, item),
         EditFault::ClockFull(clock) => write_with_number(out, b"ClockFull(", *clock),
         EditFault::NotDeleted => append(out, b"NotDeleted"),
         EditFault::Memory => append(out, b"Memory"),
     }
+}
+
+/// Appends that the names clash, with the item that has the name.
+fn write_clash(out: &mut Vec<u8>, item: &ItemId) -> Result<(), Memory>
+    ensures { OnOk result (out.new.items ≡ out.old.items ++ fault_text (Clash item.now)) }
+{
+    append(out, b"Clash(")?;
+    write_item(out, item)?;
+    append(out, b")")
 }
 
 /// Appends the text of the refusal of a session.

@@ -1,5 +1,6 @@
 ghost use Rattle.std.specs.Prelude.{◌≡◌, ◌++◌, OnOk};
-ghost use Rattle.syncfx.specs.Reply.{yes_or_no};
+ghost use Rattle.syncfx.specs.declared.reply.Reply.TheVariants.{Changed, Compared, Created, Known, Refused};
+ghost use Rattle.syncfx.specs.Reply.{reply_text, yes_or_no};
 
 use crate::reason::Reason;
 use crate::text::{append, newline};
@@ -57,7 +58,7 @@ pub enum Reply {
 }
 
 impl Reply {
-    ghost use Rattle.syncfx.specs.Reply.{is_refusal, reply_text};
+    ghost use Rattle.syncfx.specs.Reply.{is_refusal};
 
     /// Whether the line was refused, or its session ended for want of ticks.
     pub fn is_refusal(&self) -> bool
@@ -76,37 +77,62 @@ impl Reply {
     {
         match self {
             Reply::Done => append(out, b"ok\n"),
-            Reply::Created(item) => {
-                append(out, b"ok ")?;
-                write_item(out, item)?;
-                newline(out)
-            }
-            Reply::Changed(version) => {
-                append(out, b"ok ")?;
-                write_version(out, version)?;
-                newline(out)
-            }
-            Reply::Known(known) => {
-                append(out, b"known=")?;
-                write_answer(out, *known)?;
-                newline(out)
-            }
-            Reply::Compared { knowledge, items } => {
-                append(out, b"knowledge=")?;
-                write_answer(out, *knowledge)?;
-                append(out, b" items=")?;
-                write_answer(out, *items)?;
-                newline(out)
-            }
+            Reply::Created(item) => write_created(out, item),
+            Reply::Changed(version) => write_changed(out, version),
+            Reply::Known(known) => write_known(out, *known),
+            Reply::Compared { knowledge, items } => write_compared(out, *knowledge, *items),
             Reply::Shown(listing) => append(out, listing.bytes()),
             Reply::Synced { report, .. } => append(out, report.bytes()),
-            Reply::Refused(reason) => {
-                append(out, b"no ")?;
-                reason.write(out)?;
-                newline(out)
-            }
+            Reply::Refused(reason) => write_refused(out, reason),
         }
     }
+}
+
+/// Appends that the item was created.
+fn write_created(out: &mut Vec<u8>, item: &ItemId) -> Result<(), Memory>
+    ensures { OnOk result (out.new.items ≡ out.old.items ++ reply_text (Created item.now)) }
+{
+    append(out, b"ok ")?;
+    write_item(out, item)?;
+    newline(out)
+}
+
+/// Appends that the item was changed, with its new version.
+fn write_changed(out: &mut Vec<u8>, version: &Version) -> Result<(), Memory>
+    ensures { OnOk result (out.new.items ≡ out.old.items ++ reply_text (Changed version.now)) }
+{
+    append(out, b"ok ")?;
+    write_version(out, version)?;
+    newline(out)
+}
+
+/// Appends whether the version is known.
+fn write_known(out: &mut Vec<u8>, known: bool) -> Result<(), Memory>
+    ensures { OnOk result (out.new.items ≡ out.old.items ++ reply_text (Known known)) }
+{
+    append(out, b"known=")?;
+    write_answer(out, known)?;
+    newline(out)
+}
+
+/// Appends whether the replicas know the same, and whether they hold the same live items.
+fn write_compared(out: &mut Vec<u8>, knowledge: bool, items: bool) -> Result<(), Memory>
+    ensures { OnOk result (out.new.items ≡ out.old.items ++ reply_text (Compared knowledge items)) }
+{
+    append(out, b"knowledge=")?;
+    write_answer(out, knowledge)?;
+    append(out, b" items=")?;
+    write_answer(out, items)?;
+    newline(out)
+}
+
+/// Appends that the line is refused, and why.
+fn write_refused(out: &mut Vec<u8>, reason: &Reason) -> Result<(), Memory>
+    ensures { OnOk result (out.new.items ≡ out.old.items ++ reply_text (Refused reason.now)) }
+{
+    append(out, b"no ")?;
+    reason.write(out)?;
+    newline(out)
 }
 
 /// Appends yes or no.

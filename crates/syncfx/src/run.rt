@@ -67,7 +67,19 @@ pub fn run<A: Source, B: Sink>(
         Err(ReadFault::TooLong) => return Status::TooLong,
         Err(ReadFault::Memory) => return Status::Memory,
     };
-    match play(alloc, script.as_slice(), out) {
+    answer(alloc, script.as_slice(), out)
+}
+
+/// Answers each line of the script, and says how that ended.
+fn answer<B: Sink>(alloc: Global, script: &[u8], out: &mut B) -> Status
+    ensures ends { IsAnswered result ⊎ HasBrokenOff result }
+    ensures answered { IsAnswered result → Adds (B.held out.old) (B.held out.new) (played_text script.now) }
+    ensures refused { result ≡ Status.Refused → has_refusal (played script.now).replies ≡ true }
+    ensures done { result ≡ Status.Done → has_refusal (played script.now).replies ≡ false }
+    ensures broken_off { HasBrokenOff result → AddsFront (B.held out.old) (B.held out.new) (played_text script.now) }
+    ensures sink_fault { result ≡ Status.SinkFault → HasRisen (B.faults out.old) (B.faults out.new) }
+{
+    match play(alloc, script, out) {
         Ok(false) => Status::Done,
         Ok(true) => Status::Refused,
         Err(SinkFault::Failed) => Status::SinkFault,

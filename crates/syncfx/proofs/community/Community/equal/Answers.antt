@@ -1,11 +1,11 @@
-use Rattle.std.proofs.Common.{◌≡◌, Option, Some, ap, sym, subst, ℕ, ◌∙◌, is_some, option_map}
+use Rattle.std.proofs.Common.{◌≡◌, Option, Some, ap, sym, ◌∙◌, is_some, option_map}
 use Rattle.sfx_model.specs.Members.{Community, NamedMember}
 use Rattle.syncfx.specs.Comparing.{hold_same, know_same}
 use Rattle.syncfx.specs.Members.{member_of}
 use Rattle.syncfx.specs.Turn.{equal_turn}
 use Rattle.syncfx.specs.declared.reply.Reply.{Reply}
 use Rattle.syncfx.specs.declared.reply.Reply.TheVariants.{Compared}
-use Rattle.syncfx.proofs.Comparing.{compared}
+use Rattle.syncfx.proofs.Comparing.{compared, compared_items}
 use Rattle.syncfx.proofs.Members.{named}
 use Rattle.syncfx.proofs.community.Community.equal.Goals as goal
 
@@ -16,10 +16,9 @@ returns c =
     let other : member_of c.args.self.now.members c.args.second ≡ Some (named c.args.second c.in-Some-find.other.now) =
     sym c.find-2.ensures.found ∙ ap (λ o. option_map (λ r. named c.args.second r.now) o) c.in-Some-find.is in
     let units : c.args.self.now.units ≡ 2 = c.find.ensures.units (ap is_some c.in-Some.is) in
-    let last : Compared c.same-knowledge.result c.same_live-items.result ≡ Compared (know_same c.args.self.now.units c.in-Some.one.now c.in-Some-find.other.now) (hold_same c.in-Some.one.now c.in-Some-find.other.now) =
-    subst (λ (u : ℕ). Compared c.same-knowledge.result c.same_live-items.result ≡ Compared (know_same u c.in-Some.one.now c.in-Some-find.other.now) (hold_same c.in-Some.one.now c.in-Some-find.other.now)) (sym units)
-    (compared 2 c.in-Some.one.now c.in-Some-find.other.now c.in_ok-knowledge.field-0 c.in_ok-knowledge-2.field-0 c.same-knowledge.result c.same_live-items.result
-    c.in_ok-knowledge.ensures.list c.in_ok-knowledge-2.ensures.list c.same-knowledge.ensures.list c.same_live-items.ensures) in
+    let last : Compared c.in_ok-knowledge.knowledge c.same_live-items.result ≡ Compared (know_same c.args.self.now.units c.in-Some.one.now c.in-Some-find.other.now) (hold_same c.in-Some.one.now c.in-Some-find.other.now) =
+    compared c.args.self.now.units 2 c.in-Some.one.now c.in-Some-find.other.now c.in_ok-knowledge.knowledge c.same_live-items.result units c.in_ok-knowledge.ensures
+    (compared_items c.in-Some.one.now c.in-Some-find.other.now c.same_live-items.result c.same_live-items.ensures) in
     let turn : Community → Option NamedMember → Option NamedMember → Reply = λ x o p. (equal_turn x c.args.first c.args.second o p).reply in
     let here = ap (λ o. turn c.args.self.now o (member_of c.args.self.now.members c.args.second)) one ∙ ap (λ o. turn c.args.self.now (Some (named c.args.first c.in-Some.one.now)) o) other in
     last ∙ sym here
