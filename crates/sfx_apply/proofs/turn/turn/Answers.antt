@@ -37,3 +37,15 @@ returns-clause-waits g c =
     c.keeps-2.ensures.consistent c.requires.waits c.keeps.ensures.batch c.requires.no_more c.requires.sent (sym c.is_spent.ensures ∙ c.if-is_spent.false)
     c.as_ref-2.ensures.value c.in_ok-local.ensures.value c.in_ok-local.ensures.state (ap (λ (d : Draft). d.marks) c.draft.view_is) c.in_ok-draft.ensures.value
     c.in_ok-add.ensures.pending c.in_ok-add.ensures.entries c.in_ok-add.ensures.budget).2
+
+pub returns-in_err-draft-clause-came : goal.returns-in_err-draft-clause-came
+returns-in_err-draft-clause-came g c =
+    g.met.P.Provider.came_read c.args.provider.now c.item_now.new.provider c.planned.new.provider _ c.in_ok-local.ensures.came c.in_err-draft.ensures.came
+
+pub returns-in_err-add-clause-came : goal.returns-in_err-add-clause-came
+returns-in_err-add-clause-came g c =
+    g.met.P.Provider.came_read c.args.provider.now c.item_now.new.provider c.planned.new.provider _ c.in_ok-local.ensures.came c.in_ok-draft.ensures.came
+
+pub returns-clause-came : goal.returns-clause-came
+returns-clause-came g c =
+    g.met.P.Provider.came_read c.args.provider.now c.item_now.new.provider c.planned.new.provider _ c.in_ok-local.ensures.came c.in_ok-draft.ensures.came

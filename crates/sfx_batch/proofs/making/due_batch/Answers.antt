@@ -21,3 +21,21 @@ invariant_of-result g c =
     (rw were at end)
     (rw were at changes)
     (rw (stayed, were) at here)
+
+pub returns-in_err-changes-clause-came : goal.returns-in_err-changes-clause-came
+returns-in_err-changes-clause-came g c =
+    g.met.P.Provider.came_read c.args.source.now c.head.new.self c.due_changes.new.source _ c.in_ok-id.ensures.came c.in_err-changes.ensures.came
+
+pub returns-in_err-here-clause-came : goal.returns-in_err-here-clause-came
+returns-in_err-here-clause-came g c =
+    let read = g.met.P.Provider.came_read in
+    let source = c.args.source.now in
+    read source c.due_changes.new.source c.listed_ids.new.source _
+    (read source c.head.new.self c.due_changes.new.source _ c.in_ok-id.ensures.came c.in_ok-changes.ensures.came) c.in_err-here.ensures.came
+
+pub returns-clause-came : goal.returns-clause-came
+returns-clause-came g c =
+    let read = g.met.P.Provider.came_read in
+    let source = c.args.source.now in
+    read source c.due_changes.new.source c.listed_ids.new.source _
+    (read source c.head.new.self c.due_changes.new.source _ c.in_ok-id.ensures.came c.in_ok-changes.ensures.came) c.in_ok-here.ensures.came

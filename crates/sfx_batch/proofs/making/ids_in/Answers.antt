@@ -45,3 +45,19 @@ walk-preserved g c =
       came = g.met.P.Provider.came_read c.args.source.now c.walk.source c.next_id.new.source _ c.walk.invariant.came c.in_ok-id.ensures.came;
       faults = omega (arith, low, fell);
     }
+
+pub returns-in_err-id-clause-came : goal.returns-in_err-id-clause-came
+returns-in_err-id-clause-came g c =
+    g.met.P.Provider.came_read c.args.source.now c.walk.source c.next_id.new.source _ c.walk.invariant.came c.in_err-id.ensures.came
+
+pub returns-in_err-push-clause-came : goal.returns-in_err-push-clause-came
+returns-in_err-push-clause-came g c =
+    g.met.P.Provider.came_read c.args.source.now c.walk.source c.next_id.new.source _ c.walk.invariant.came c.in_ok-id.ensures.came
+
+pub returns-then-not-in_range-clause-came : goal.returns-then-not-in_range-clause-came
+returns-then-not-in_range-clause-came g c =
+    g.met.P.Provider.came_read c.args.source.now c.walk.source c.next_id.new.source _ c.walk.invariant.came c.in_ok-id.ensures.came
+
+pub returns-clause-came : goal.returns-clause-came
+returns-clause-came g c =
+    g.met.P.Provider.came_read c.args.source.now c.walk.source c.next_id.new.source _ c.walk.invariant.came c.in_ok-id.ensures.came
