@@ -1,5 +1,5 @@
 //! The text that tells what a session did.
-ghost use Rattle.std.specs.Prelude.{◌≡◌, ◌++◌, IfOk, OnOk};
+ghost use Rattle.std.specs.Prelude.{◌≡◌, ◌++◌, codes, decimal, IfOk, OnOk};
 ghost use Rattle.std.specs.List.{flat_map};
 ghost use Rattle.syncfx.specs.Report.{batch_text, change_text, changed_text, changes_text, end_text, entry_count, entry_lines, entry_text, full_text, here_text, kind_text, last_text, mark_text, marked_text, mode_text, name_text, other_text, range_text, report_text, step_lines, tick_text};
 
@@ -117,12 +117,19 @@ fn write_changed(out: &mut Vec<u8>, item: &ItemId, name: &Option<Name>) -> Resul
 fn write_batch<const U: usize>(out: &mut Vec<u8>, batch: &Batch<U>) -> Result<(), Memory>
     ensures { OnOk result (out.new.items ≡ out.old.items ++ batch_text batch.now) }
 {
-    append(out, b"batch ")?;
-    write_mode(out, batch.mode)?;
-    write_range(out, &batch.from, &batch.to)?;
+    write_ranged(out, batch.mode, &batch.from, &batch.to)?;
     write_changes(out, batch.changes.len())?;
     write_here(out, batch.mode, batch.here.as_slice())?;
     newline(out)
+}
+
+/// Appends the mode of a batch, and the cuts between which it ranges.
+fn write_ranged(out: &mut Vec<u8>, mode: Mode, from: &Cut, to: &Cut) -> Result<(), Memory>
+    ensures { OnOk result (out.new.items ≡ out.old.items ++ codes "batch " ++ mode_text mode ++ range_text from.now to.now) }
+{
+    append(out, b"batch ")?;
+    write_mode(out, mode)?;
+    write_range(out, from, to)
 }
 
 /// Appends the cuts between which a batch ranges.
@@ -267,9 +274,16 @@ fn write_last(
     ensures { OnOk result (out.new.items ≡ out.old.items ++ last_text end.now batches entries) }
 {
     write_end(out, end)?;
+    write_counts(out, batches, entries)?;
+    newline(out)
+}
+
+/// Appends how many batches and entries a session had.
+fn write_counts(out: &mut Vec<u8>, batches: usize, entries: u128) -> Result<(), Memory>
+    ensures { OnOk result (out.new.items ≡ out.old.items ++ codes " batches=" ++ decimal batches ++ codes " entries=" ++ decimal entries) }
+{
     append(out, b" batches=")?;
     write_number(out, batches as u64)?;
     append(out, b" entries=")?;
-    write_total(out, entries)?;
-    newline(out)
+    write_total(out, entries)
 }
