@@ -1,28 +1,11 @@
 //! `syncfx`: a synchronization runtime. `syncfx play` runs a script from standard input.
 #![tactic(auto)]
 
-use run::run;
 use sfx_outside::{StdSink, StdSource};
-use status::Status;
+use sfx_run::{Status, run};
 use std::io::ErrorKind;
 use std::process::ExitCode;
 use std::{env, io};
-
-mod community;
-mod laws;
-mod listing;
-mod meeting;
-mod play;
-mod reason;
-mod reply;
-mod report;
-mod run;
-#[cfg(test)]
-mod session_tests;
-mod status;
-#[cfg(test)]
-mod tests;
-mod text;
 
 fn main(rt: HostRuntime) -> ExitCode {
     let status = status_of(&rt);

@@ -1,0 +1,15 @@
+use Rattle.sfx_community.proofs.History.{turns_alone, turns_happen_lem, turns_orderly}
+use Rattle.sfx_community.proofs.NotAhead.{turns_not_ahead}
+use Rattle.sfx_community.proofs.laws.turns_happen.Goals as goal
+
+pub returns-clause-happen : goal.returns-clause-happen
+returns-clause-happen c = turns_happen_lem
+
+pub returns-clause-orderly : goal.returns-clause-orderly
+returns-clause-orderly c = turns_orderly
+
+pub returns-clause-alone : goal.returns-clause-alone
+returns-clause-alone c = turns_alone
+
+pub returns-clause-not_ahead : goal.returns-clause-not_ahead
+returns-clause-not_ahead c = turns_not_ahead

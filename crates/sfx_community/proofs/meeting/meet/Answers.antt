@@ -1,0 +1,27 @@
+use Rattle.std.proofs.Common.{◌≡◌, None, ap, ◌∙◌, subst, sym}
+use Rattle.std.proofs.lemmas.Result.{err_from_is_err_and}
+use Rattle.std.specs.Result.{IfErr}
+use Rattle.sfx_session.specs.Refusals.{Refuses, IsRefusal, refusal_of}
+use Rattle.sfx_session.specs.Report.{report_of}
+use Rattle.sfx_community.proofs.Sessions.{of_copies}
+use Rattle.sfx_community.proofs.meeting.meet.Goals as goal
+
+pub returns-in_err-report-clause-refused : goal.returns-in_err-report-clause-refused
+returns-in_err-report-clause-refused g c =
+    let one = ap (λ p. p.member) c.in_ok-from.ensures in
+    let other = ap (λ p. p.member) c.in_ok-to.ensures in
+    let (fault, is, same) = err_from_is_err_and c.from_residual-in_err-report.result c.from_residual-in_err-report.ensures.1 in
+    let refused = of_copies (λ m n. IsRefusal c.in_err-report.field-0.0 (refusal_of g.row.U m n)) one other c.in_err-report.ensures.refused in
+    rw (is, same) refused
+
+pub returns-clause-refused : goal.returns-clause-refused
+returns-clause-refused g c =
+    let one = ap (λ p. p.member) c.in_ok-from.ensures in
+    let other = ap (λ p. p.member) c.in_ok-to.ensures in
+    of_copies (λ m n. refusal_of g.row.U m n ≡ None) one other c.in_ok-report.ensures.refused
+
+pub returns-clause-report : goal.returns-clause-report
+returns-clause-report g c =
+    let one = ap (λ p. p.member) c.in_ok-from.ensures in
+    let other = ap (λ p. p.member) c.in_ok-to.ensures in
+    of_copies (λ m n. c.in_ok-report.report ≡ report_of g.row.U m n c.args.options.now.batch c.args.options.now.cut) one other c.in_ok-report.ensures.report

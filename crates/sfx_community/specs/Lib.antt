@@ -1,0 +1,4 @@
+pub mod Comparing
+pub mod Members
+pub mod Turn
+pub mod History

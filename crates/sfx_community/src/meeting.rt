@@ -1,0 +1,57 @@
+//! A session between two replicas that are in memory.
+ghost use Rattle.std.specs.Prelude.{◌≡◌, [], IfOk, IsErrOf};
+ghost use Rattle.sfx_script.specs.Limits.{AreWithinLimits};
+ghost use Rattle.sfx_session.specs.Refusals.{Refuses, refusal_of};
+ghost use Rattle.sfx_session.specs.Report.{report_of};
+ghost use Rattle.sfx_community.specs.Turn.{session_under};
+
+use sfx_ids::Memory;
+use sfx_replica::{MemoryProvider, Replica};
+use sfx_script::Options;
+use sfx_session::{Report, SessionFault, session};
+use std::alloc::Global;
+
+/// What comes of a session: what it did, and the destination afterwards.
+#[derive(Drop)]
+pub struct Meeting<const U: usize> {
+    pub report: Report<U>,
+    pub destination: Replica<U>,
+}
+
+/// Runs a session under these options between copies of the source and the destination, which stay as they
+/// are.
+///
+/// # Errors
+/// What refuses the session, and `Memory`. No copy fails, as both are in memory.
+pub fn meet<const U: usize>(
+    alloc: Global,
+    source: &Replica<U>,
+    destination: &Replica<U>,
+    options: &Options,
+) -> Result<Meeting<U>, SessionFault>
+    requires limits { AreWithinLimits options.now }
+    ensures refused { Refuses result (refusal_of U source.now destination.now) }
+    ensures report { IfOk result (λ met. met.report ≡ report_of U source.now destination.now options.now.batch options.now.cut) }
+    ensures destination { IfOk result (λ met. met.destination ≡ (session_under U source.now destination.now options.now).course.member) }
+    ensures source_stays { IsErrOf result SessionFault.Source → ⊥ }
+    ensures destination_stays { IsErrOf result SessionFault.Destination → ⊥ }
+{
+    let mut from = provider_of(alloc, source)?;
+    let mut to = provider_of(alloc, destination)?;
+    let size = options.batch as usize;
+    let report = session(alloc, &mut from, &mut to, size, options.group, options.cut)?;
+    Ok(Meeting {
+        report,
+        destination: to.into_replica(),
+    })
+}
+
+/// A provider of a copy of the replica, none of whose calls fails.
+fn provider_of<const U: usize>(
+    alloc: Global,
+    replica: &Replica<U>,
+) -> Result<MemoryProvider<U>, Memory>
+    ensures { IfOk result (λ p. p ≡ record { member = replica.now; fails = []; calls = 0; faults = 0 }) }
+{
+    Ok(MemoryProvider::new(replica.copy(alloc)?, Vec::new(alloc)))
+}

@@ -1,0 +1,95 @@
+ghost use Rattle.std.specs.Prelude.{◌≡◌, ◌<◌, ◌≤◌, ◌⊎◌, ◌↔◌, true, false, length, map, string_bytes, IfSome, IsTrue};
+ghost use Rattle.sfx_outside.specs.Fault.{HasRisen};
+ghost use Rattle.sfx_outside.specs.Sink.{Adds, AddsFront};
+ghost use Rattle.sfx_outside.specs.Source.{IsAtEnd};
+ghost use Rattle.sfx_model.specs.Members.{RepresentsWorld};
+ghost use Rattle.sfx_model.specs.World.{World, WellFormed};
+ghost use Rattle.sfx_community.specs.History.{AreNotAhead, HasHappened};
+ghost use Rattle.sfx_run.specs.Run.{has_refusal, is_play, played, played_text};
+ghost use Rattle.sfx_community.specs.Turn.{empty_community};
+ghost use Rattle.sfx_run.specs.Status.{HasBrokenOff, HasNotBegun, IsAnswered};
+
+use crate::play::play;
+use crate::status::Status;
+use sfx_outside::{ReadFault, Sink, SinkFault, Source, read_to_end};
+use std::alloc::Global;
+
+/// How many bytes an input has at most.
+pub const MAX_INPUT: usize = 16_777_216;
+
+/// Runs the command that the words make. The one command that is built is `play`: it reads a script
+/// from the input to its end, runs its lines, and writes the reply of each.
+pub fn run<A: Source, B: Sink>(
+    alloc: Global,
+    words: &Vec<String>,
+    input: &mut A,
+    out: &mut B,
+) -> Status
+    // Every line is answered: what is written are the replies, and nothing of the input is left.
+    ensures answered { IsAnswered result → IfSome (A.left input.old) (λ script. Adds (B.held out.old) (B.held out.new) (played_text script)) }
+    ensures end { IsAnswered result → IsAtEnd (A.left input.new) }
+    ensures refused { result ≡ Status.Refused → IfSome (A.left input.old) (λ script. has_refusal (played script).replies ≡ true) }
+    ensures done { result ≡ Status.Done → IfSome (A.left input.old) (λ script. has_refusal (played script).replies ≡ false) }
+
+    // What the script does happens in every world that the state at the start represents.
+    ensures history { IsAnswered result → IfSome (A.left input.old) (λ script. (w : World) →
+        WellFormed w → RepresentsWorld w empty_community → HasHappened w empty_community (played script)) }
+
+    // No session of a script is refused because its source knows more of the destination than that made.
+    ensures not_ahead { IsAnswered result → IfSome (A.left input.old) (λ script. AreNotAhead (played script).replies) }
+
+    // When each other end comes.
+    ensures usage { (result ≡ Status.Usage) ↔ (is_play (map string_bytes words.now.items) ≡ false) }
+    ensures source_fault { result ≡ Status.SourceFault → HasRisen (A.faults input.old) (A.faults input.new) }
+    ensures sink_fault { result ≡ Status.SinkFault → HasRisen (B.faults out.old) (B.faults out.new) }
+    ensures too_long { result ≡ Status.TooLong → IfSome (A.left input.old) (λ script. MAX_INPUT < length script) }
+    ensures fits { (IsAnswered result ⊎ (result ≡ Status.SinkFault)) → IfSome (A.left input.old) (λ script. length script ≤ MAX_INPUT) }
+
+    // What is written then, and what is read.
+    ensures silent { HasNotBegun result → B.held out.new ≡ B.held out.old }
+    ensures broken_off { HasBrokenOff result → IfSome (A.left input.old) (λ script. AddsFront (B.held out.old) (B.held out.new) (played_text script)) }
+    ensures unread { result ≡ Status.Usage → A.left input.new ≡ A.left input.old }
+
+    // Where no end fails and the input is not too long, every line is answered, or memory runs out.
+    ensures complete { is_play (map string_bytes words.now.items) ≡ true →
+        (HasRisen (A.faults input.old) (A.faults input.new) → ⊥) → (HasRisen (B.faults out.old) (B.faults out.new) → ⊥) →
+        IfSome (A.left input.old) (λ script. length script ≤ MAX_INPUT → IsAnswered result ⊎ (result ≡ Status.Memory)) }
+    ensures refuses_long { is_play (map string_bytes words.now.items) ≡ true →
+        (HasRisen (A.faults input.old) (A.faults input.new) → ⊥) →
+        IfSome (A.left input.old) (λ script. MAX_INPUT < length script → (result ≡ Status.TooLong) ⊎ (result ≡ Status.Memory)) }
+{
+    if !is_play(words) {
+        return Status::Usage;
+    }
+    let script = match read_to_end(alloc, input, MAX_INPUT) {
+        Ok(script) => script,
+        Err(ReadFault::Failed) => return Status::SourceFault,
+        Err(ReadFault::TooLong) => return Status::TooLong,
+        Err(ReadFault::Memory) => return Status::Memory,
+    };
+    answer(alloc, script.as_slice(), out)
+}
+
+/// Answers each line of the script, and says how that ended.
+fn answer<B: Sink>(alloc: Global, script: &[u8], out: &mut B) -> Status
+    ensures ends { IsAnswered result ⊎ HasBrokenOff result }
+    ensures answered { IsAnswered result → Adds (B.held out.old) (B.held out.new) (played_text script.now) }
+    ensures refused { result ≡ Status.Refused → has_refusal (played script.now).replies ≡ true }
+    ensures done { result ≡ Status.Done → has_refusal (played script.now).replies ≡ false }
+    ensures broken_off { HasBrokenOff result → AddsFront (B.held out.old) (B.held out.new) (played_text script.now) }
+    ensures sink_fault { result ≡ Status.SinkFault → HasRisen (B.faults out.old) (B.faults out.new) }
+{
+    match play(alloc, script, out) {
+        Ok(false) => Status::Done,
+        Ok(true) => Status::Refused,
+        Err(SinkFault::Failed) => Status::SinkFault,
+        Err(SinkFault::Memory) => Status::Memory,
+    }
+}
+
+/// Whether the words are the command `play`.
+fn is_play(words: &Vec<String>) -> bool
+    ensures { result ≡ is_play (map string_bytes words.now.items) }
+{
+    words.len() == 1 && words[0].as_str() == "play"
+}

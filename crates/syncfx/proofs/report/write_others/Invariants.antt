@@ -1,9 +1,0 @@
-use Rattle.std.proofs.Common.{◌≡◌, ◌++◌, drop}
-use Rattle.std.specs.List.{flat_map}
-use Rattle.syncfx.specs.Report.{other_text}
-use Rattle.syncfx.proofs.report.write_others.Given as goal
-
--- what is written, and what is left to write, make the whole
-abbrev pub invariant-loop-other : goal.invariant-loop-other
-invariant-loop-other l =
-    l.out.items ++ flat_map other_text (drop l.other-index l.others) ≡ l.fn.out.items ++ flat_map other_text l.others

@@ -1,9 +1,0 @@
-pub mod Listing
-pub mod Comparing
-pub mod Report
-pub mod Reply
-pub mod Members
-pub mod Turn
-pub mod Status
-pub mod Run
-pub mod History
