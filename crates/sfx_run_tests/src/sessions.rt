@@ -1,26 +1,6 @@
 //! Runs of scripts in which replicas meet.
-use crate::scripts::{run_on, with_ids};
+use crate::scripts::plays;
 use sfx_run::Status;
-use std::alloc::Global;
-use std::process::Abort;
-use std::test::Fail;
-
-/// Plays a script to its end and compares its replies, in which `{a}` and `{b}` stand for ids.
-fn plays(
-    rt: &impl Abort,
-    alloc: Global,
-    script: &str,
-    replies: &str,
-    status: Status,
-) -> Result<(), Fail> {
-    let script = with_ids(alloc, script)?;
-    let bytes = Vec::from_slice(alloc, script.as_bytes())?;
-    let ended = run_on(alloc, &["play"], bytes, 7, &[])?;
-    let replies = with_ids(alloc, replies)?;
-    assert_eq!(rt; ended.out.held(), replies.as_bytes());
-    assert_eq!(rt; ended.status, status);
-    Ok(())
-}
 
 /// An item is exchanged, and then a value that is written to it.
 const EXCHANGE: &str = "units 2
@@ -57,8 +37,8 @@ knowledge=yes items=yes
 ";
 
 #[test]
-fn exchanges_an_item(rt: HostRuntime) -> Result<(), Fail> {
-    plays(&rt, rt.alloc(), EXCHANGE, EXCHANGED, Status::Done)
+fn exchanges_an_item(rt: HostRuntime) {
+    plays(&rt, rt.alloc(), EXCHANGE, EXCHANGED, Status::Done);
 }
 
 /// Each side writes another unit of one item.
@@ -109,8 +89,8 @@ end
 ";
 
 #[test]
-fn exchanges_units(rt: HostRuntime) -> Result<(), Fail> {
-    plays(&rt, rt.alloc(), UNITS, UNITS_MERGED, Status::Done)
+fn exchanges_units(rt: HostRuntime) {
+    plays(&rt, rt.alloc(), UNITS, UNITS_MERGED, Status::Done);
 }
 
 /// A session is cut, and the next one goes on.
@@ -159,8 +139,8 @@ knowledge=yes items=yes
 ";
 
 #[test]
-fn goes_on_after_a_cut(rt: HostRuntime) -> Result<(), Fail> {
-    plays(&rt, rt.alloc(), CUT, CUT_AND_RESUMED, Status::Done)
+fn goes_on_after_a_cut(rt: HostRuntime) {
+    plays(&rt, rt.alloc(), CUT, CUT_AND_RESUMED, Status::Done);
 }
 
 /// Batches of one change, and groups of two entries.
@@ -192,8 +172,8 @@ end
 ";
 
 #[test]
-fn sends_batches(rt: HostRuntime) -> Result<(), Fail> {
-    plays(&rt, rt.alloc(), BATCHES, BATCHED, Status::Done)
+fn sends_batches(rt: HostRuntime) {
+    plays(&rt, rt.alloc(), BATCHES, BATCHED, Status::Done);
 }
 
 /// Both sides write one unit, and the conflict is left alone.
@@ -230,8 +210,8 @@ end
 ";
 
 #[test]
-fn leaves_a_conflict_alone(rt: HostRuntime) -> Result<(), Fail> {
-    plays(&rt, rt.alloc(), CONFLICT, LEFT_ALONE, Status::Done)
+fn leaves_a_conflict_alone(rt: HostRuntime) {
+    plays(&rt, rt.alloc(), CONFLICT, LEFT_ALONE, Status::Done);
 }
 
 /// A name clashes with one of the destination, and the item is left out.
@@ -266,8 +246,8 @@ done batches=1 entries=1
 ";
 
 #[test]
-fn leaves_a_clash_out(rt: HostRuntime) -> Result<(), Fail> {
-    plays(&rt, rt.alloc(), CLASH, LEFT_OUT, Status::Done)
+fn leaves_a_clash_out(rt: HostRuntime) {
+    plays(&rt, rt.alloc(), CLASH, LEFT_OUT, Status::Done);
 }
 
 /// Sessions that are refused, each for its first reason.
@@ -303,6 +283,6 @@ end
 ";
 
 #[test]
-fn refuses_sessions(rt: HostRuntime) -> Result<(), Fail> {
-    plays(&rt, rt.alloc(), REFUSALS, REFUSED, Status::Refused)
+fn refuses_sessions(rt: HostRuntime) {
+    plays(&rt, rt.alloc(), REFUSALS, REFUSED, Status::Refused);
 }
