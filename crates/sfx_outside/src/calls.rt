@@ -3,7 +3,7 @@ ghost use Rattle.sfx_outside.specs.Fault.{counted};
 
 /// The calls that were made of something in memory which stands for the outside, as a source or a sink:
 /// which of them fail, how many were made, and how many failed.
-#[derive(Debug, Drop)]
+#[derive(Drop)]
 pub struct Calls {
     /// The numbers of the calls that fail, counted from 1.
     pub fails: Vec<u64>,

@@ -2,7 +2,7 @@ use std::error::Error;
 use std::fmt;
 
 /// The outside failed: a read could not be made. What was left is as before.
-#[derive(Clone, Copy, Debug, PartialEq, Eq, Hash)]
+#[derive(Clone, Copy, Debug, PartialEq, Eq)]
 pub struct Failed;
 
 impl fmt::Display for Failed {

@@ -5,7 +5,7 @@ use crate::{Failed, Source};
 use std::marker::Model;
 
 /// A source of bytes in memory. It gives at most a piece at a time, and the calls in its list fail.
-#[derive(Debug, Drop)]
+#[derive(Drop)]
 pub struct MemorySource {
     bytes: Vec<u8>,
     at: usize,

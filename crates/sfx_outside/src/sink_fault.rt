@@ -6,7 +6,7 @@ use std::error::Error;
 use std::fmt;
 
 /// Why a sink did not take a piece.
-#[derive(Clone, Copy, Debug, PartialEq, Eq, Hash)]
+#[derive(Clone, Copy, Debug, PartialEq, Eq)]
 pub enum SinkFault {
     /// The outside failed: the write could not be made, or could not be finished.
     Failed,

@@ -12,7 +12,7 @@ use std::marker::Model;
 /// and one flush of the writer, and one that a signal cuts short is made again. A failed flush is a
 /// fault, and so is a write that takes nothing of a piece. As a sink it tells nothing of the bytes
 /// that it holds; that they go to its writer is a clause of `write`.
-#[derive(Debug, Drop)]
+#[derive(Drop)]
 pub struct StdSink<W: Write> {
     writer: W,
     faults: u64,

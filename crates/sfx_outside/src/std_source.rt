@@ -13,7 +13,7 @@ const PIECE: usize = 65536;
 /// Standard input as a source, or another reader: `StdSource::new(rt.stdin())`. Each call is one read
 /// of the reader, of at most 64 KiB, and one that a signal cuts short is made again. As a source it
 /// tells nothing of the bytes that it has left; that they are its reader's is a clause of `read`.
-#[derive(Debug, Drop)]
+#[derive(Drop)]
 pub struct StdSource<R: Read> {
     reader: R,
     faults: u64,
@@ -60,7 +60,8 @@ impl<R: Read> Source for StdSource<R> {
         ensures fits { self.old.faults < 2 ^ 64 }
         ensures faults { self.new.faults ≡ (if is_ok result then self.old.faults else counted self.old.faults) }
     {
-        match read_piece(&mut self.reader, into) {
+        let mut piece = [0; PIECE];
+        match read_piece(&mut self.reader, &mut piece, into) {
             Ok(count) => Ok(count),
             Err(_) => {
                 self.faults = self.faults.saturating_add(1);
@@ -70,14 +71,14 @@ impl<R: Read> Source for StdSource<R> {
     }
 }
 
-/// Reads once into the front of `into`, and leaves the rest of it as it is.
-fn read_piece<R: Read>(reader: &mut R, into: &mut [u8]) -> io::Result<usize>
+/// Reads once into the front of `into`, by way of `piece`, and leaves the rest of it as it is.
+fn read_piece<R: Read>(reader: &mut R, piece: &mut [u8], into: &mut [u8]) -> io::Result<usize>
+    requires { 0 < length piece.old }
     ensures count { IfOk result (λ n. n ≤ length into.old) }
     ensures bytes { ReadConsumes (R.remaining reader.old) (R.remaining reader.new) result into.new }
     ensures rest { IfOk result (λ n. drop n into.new ≡ drop n into.old) }
 {
-    let mut piece = [0; PIECE];
-    let room = into.len().min(PIECE);
+    let room = into.len().min(piece.len());
     let count = read_some(reader, &mut piece[..room])?;
     into[..count].copy_from_slice(&piece[..count]);
     Ok(count)

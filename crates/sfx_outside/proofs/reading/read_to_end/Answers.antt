@@ -1,6 +1,114 @@
-use Rattle.std.proofs.Common.{◌+◌, ◌++◌, take, arith, length-append, length-take}
-use Rattle.sfx_outside.proofs.SourceLemmas.{Takes-append}
+use Rattle.std.proofs.Common.{◌≡◌, ◌+◌, ◌++◌, ◌<◌, ◌≤◌, take, length, inl, inr, refl, arith, length-append, length-take}
+use Rattle.sfx_outside.proofs.SourceLemmas.{Takes-append, Takes-all, Takes-long, Takes-none, always, never_long, never_short}
 use Rattle.sfx_outside.proofs.reading.read_to_end.Goals as goal
+
+pub returns-clause-too_long : goal.returns-clause-too_long
+returns-clause-too_long g c = λ _. Takes-long
+    (g.A.Source.left c.args.input.now)
+    (g.A.Source.left c.loop-buffer.input)
+    c.loop-buffer.bytes.items
+    c.args.limit
+    c.loop-buffer.invariant.taken
+    (omega arith)
+
+pub returns-clause-stopped : goal.returns-clause-stopped
+returns-clause-stopped g c = λ _. (c.loop-buffer.bytes.items, omega arith, c.loop-buffer.invariant.taken)
+
+pub returns-clause-taken : goal.returns-clause-taken
+returns-clause-taken g c = (c.loop-buffer.bytes.items, omega arith, c.loop-buffer.invariant.taken)
+
+pub returns-clause-short : goal.returns-clause-short
+returns-clause-short g c = λ _. never_short
+    (g.A.Source.left c.args.input.now)
+    c.args.limit
+    _
+    (Takes-long
+    (g.A.Source.left c.args.input.now)
+    (g.A.Source.left c.loop-buffer.input)
+    c.loop-buffer.bytes.items
+    c.args.limit
+    c.loop-buffer.invariant.taken
+    (omega arith))
+
+pub returns-clause-long : goal.returns-clause-long
+returns-clause-long g c = λ _. always (g.A.Source.left c.args.input.now) (λ all. c.args.limit < length all) _ (inl refl)
+
+pub returns-then-count-eq0-clause-all : goal.returns-then-count-eq0-clause-all
+returns-then-count-eq0-clause-all g c =
+    let left = g.A.Source.left in
+    Takes-all
+    (left c.args.input.now)
+    (left c.read.new.self)
+    c.loop-buffer.bytes.items
+    (Takes-none
+    (left c.args.input.now)
+    (left c.loop-buffer.input)
+    (left c.read.new.self)
+    c.loop-buffer.bytes.items
+    c.read.new.into
+    c.in_ok-count.count
+    c.loop-buffer.invariant.taken
+    c.if-count-eq0.true
+    c.in_ok-count.ensures.taken)
+    (c.in_ok-count.ensures.end
+    c.if-count-eq0.true
+    (omega (arith, length-take (c.min-room.result + 1) c.loop-buffer.buffer)))
+
+pub returns-then-count-eq0-clause-end : goal.returns-then-count-eq0-clause-end
+returns-then-count-eq0-clause-end g c =
+    c.in_ok-count.ensures.end
+    c.if-count-eq0.true
+    (omega (arith, length-take (c.min-room.result + 1) c.loop-buffer.buffer))
+
+pub returns-then-count-eq0-clause-taken : goal.returns-then-count-eq0-clause-taken
+returns-then-count-eq0-clause-taken g c =
+    let left = g.A.Source.left in (
+      c.loop-buffer.bytes.items,
+      omega arith,
+      Takes-none
+          (left c.args.input.now)
+          (left c.loop-buffer.input)
+          (left c.read.new.self)
+          c.loop-buffer.bytes.items
+          c.read.new.into
+          c.in_ok-count.count
+          c.loop-buffer.invariant.taken
+          c.if-count-eq0.true
+          c.in_ok-count.ensures.taken,
+    )
+
+pub returns-then-count-eq0-clause-short : goal.returns-then-count-eq0-clause-short
+returns-then-count-eq0-clause-short g c = λ _. always (g.A.Source.left c.args.input.now) (λ all. length all ≤ c.args.limit) _ (inl refl)
+
+pub returns-then-count-eq0-clause-long : goal.returns-then-count-eq0-clause-long
+returns-then-count-eq0-clause-long g c = λ _.
+    let left = g.A.Source.left in
+    never_long
+    (left c.args.input.now)
+    c.loop-buffer.bytes.items
+    c.args.limit
+    _
+    (Takes-all
+    (left c.args.input.now)
+    (left c.read.new.self)
+    c.loop-buffer.bytes.items
+    (Takes-none
+    (left c.args.input.now)
+    (left c.loop-buffer.input)
+    (left c.read.new.self)
+    c.loop-buffer.bytes.items
+    c.read.new.into
+    c.in_ok-count.count
+    c.loop-buffer.invariant.taken
+    c.if-count-eq0.true
+    c.in_ok-count.ensures.taken)
+    (c.in_ok-count.ensures.end
+    c.if-count-eq0.true
+    (omega (arith, length-take (c.min-room.result + 1) c.loop-buffer.buffer))))
+    (omega arith)
+
+pub returns-in_err-count-clause-taken : goal.returns-in_err-count-clause-taken
+returns-in_err-count-clause-taken g c = (c.loop-buffer.bytes.items, omega arith, rw c.in_err-count.ensures.err c.loop-buffer.invariant.taken)
 
 pub returns-in_err-extend_from_slice-clause-taken : goal.returns-in_err-extend_from_slice-clause-taken
 returns-in_err-extend_from_slice-clause-taken g c =
