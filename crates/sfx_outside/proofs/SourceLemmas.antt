@@ -1,6 +1,7 @@
--- Bytes that are taken one after another.
-use Rattle.std.proofs.Common.{◌≡◌, ℕ, ◌<◌, ◌≤◌, List, ◌++◌, length, take, Option, None, Some, IfSome, refl, ap, sym, arith, length-append, append_assoc}
+-- Bytes that are taken one after another, and counts of faults that rise.
+use Rattle.std.proofs.Common.{◌≡◌, ℕ, ◌<◌, ◌≤◌, List, ◌++◌, length, take, Option, None, Some, IfSome, inl, inr, refl, ap, sym, arith, length-append, append_assoc}
 use Rattle.std.proofs.lemmas.List.{append-nil}
+use Rattle.sfx_outside.specs.Fault.{HasRisen}
 use Rattle.sfx_outside.specs.Source.{IsAtEnd, Takes}
 
 -- bytes that are taken, and then those behind them
@@ -45,3 +46,8 @@ never_long (Some all) bytes limit P same within = λ long. absurd (omega (arith,
 pub always : (before : Option (List ℕ)) (Q : List ℕ → Type 0) (P : Type 0) → P → IfSome before (λ all. Q all → P)
 always None Q P holds = tt
 always (Some all) Q P holds = λ _. holds
+
+-- a count that has risen later has risen
+pub HasRisen-before : (before between now : ℕ) → before ≤ between → HasRisen between now → HasRisen before now
+HasRisen-before before between now earlier (inl more) = inl (omega arith)
+HasRisen-before before between now earlier (inr full) = inr full
