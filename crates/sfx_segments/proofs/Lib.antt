@@ -5,3 +5,4 @@ pub mod Passing
 pub mod Pushing
 pub mod Merging
 pub mod Ranges
+pub mod Getting

@@ -1,9 +1,10 @@
 -- Walking a list of segments up to a place.
-use Rattle.std.proofs.Common.{◌≡◌, ◌⊎◌, ◌<◌, ◌≤◌, Bool, true, false, true≢false, if◌then◌else◌, inl, inr, arith, refl, sym, ap, subst, ◌∙◌, List, [], ◌∷◌, length}
+use Rattle.std.proofs.Common.{◌≡◌, ◌⊎◌, ◌-◌, ◌<◌, ◌≤◌, Bool, true, false, true≢false, if◌then◌else◌, inl, inr, arith, refl, sym, ap, subst, ◌∙◌, List, [], ◌∷◌, length, get_or, take, drop}
+use Rattle.std.proofs.lemmas.List.{take_rest}
 use Rattle.sfx_ids.specs.declared.cut.Cut.{Cut}
-use Rattle.sfx_ids.specs.declared.cut.Cut.TheVariants.{End}
+use Rattle.sfx_ids.specs.declared.cut.Cut.TheVariants.{Start, End}
 use Rattle.sfx_ids.specs.Cut.{cut_lt, cut_le}
-use Rattle.sfx_ids.proofs.CutOrder.{lt-not_le, not_le, le_trans, lt_trans, lt_le_trans}
+use Rattle.sfx_ids.proofs.CutOrder.{lt-not_le, not_le, not_lt, le_trans, lt_trans, lt_le_trans}
 use Rattle.sfx_segments.specs.Segments.{segment_at}
 use Rattle.sfx_segments.specs.Merge.{start_of, earlier, passed}
 use Rattle.sfx_segments.proofs.Places.{segment_at-passed, segment_at-ahead}
@@ -17,6 +18,36 @@ passed-cons {A} value p ps place le =
 passed-ahead : {A : Type 0} (value : A) (p : Cut × A) (ps : List (Cut × A)) (place : Cut) → cut_le p.0 place ≡ false → let r : A × List (Cut × A) = (value, p ∷ ps) in passed value (p ∷ ps) place ≡ r
 passed-ahead {A} value p ps place ahead =
     ap (λ (b : Bool). let r : A × List (Cut × A) = if b then passed p.1 ps place else (value, p ∷ ps) in r) ahead
+
+-- segments that begin at the start are some
+pub not_empty : {A : Type 0} (xs : List (Cut × A)) → start_of xs ≡ Start → 0 < length xs
+not_empty [] starts = cc
+not_empty (p ∷ ps) starts = omega arith
+
+-- past a segment that begins no later
+pub pass_goes_on : {A : Type 0} (value : A) (ahead : List (Cut × A)) (first : Cut × A) (place : Cut) →
+    1 ≤ length ahead → first ≡ get_or ahead 0 first → cut_lt place first.0 ≡ false →
+    passed first.1 (take (length ahead - 1) (drop 1 ahead)) place ≡ passed value ahead place
+pass_goes_on value [] first place some is later = absurd (omega arith)
+pass_goes_on value (p ∷ ps) first place some is later =
+    let is_p : first ≡ p = is in
+    rw (take_rest (p ∷ ps) 1, is_p)
+    (sym (passed-cons value p ps place (not_lt place p.0 (rw is_p at later))))
+
+-- at a segment that begins later
+pub pass_stops : {A : Type 0} (value : A) (ahead : List (Cut × A)) (first : Cut × A) (place : Cut) →
+    1 ≤ length ahead → first ≡ get_or ahead 0 first → cut_lt place first.0 ≡ true →
+    let r : A × List (Cut × A) = (value, ahead) in r ≡ passed value ahead place
+pass_stops value [] first place some is later = absurd (omega arith)
+pass_stops value (p ∷ ps) first place some is later =
+    let is_p : first ≡ p = is in
+    sym (passed-ahead value p ps place (lt-not_le place p.0 (rw is_p at later)))
+
+-- behind the last segment
+pub pass_ends : {A : Type 0} (value : A) (ahead : List (Cut × A)) (place : Cut) →
+    length ahead < 1 → let r : A × List (Cut × A) = (value, ahead) in r ≡ passed value ahead place
+pass_ends value [] place over = refl
+pass_ends value (p ∷ ps) place over = absurd (omega arith)
 
 -- the test, with what it says
 data Tested (b : Bool) : Type 0 where

@@ -1,6 +1,7 @@
 use Rattle.std.proofs.Common.{get_or, subst}
 use Rattle.sfx_segments.specs.Merge.{Extends}
 use Rattle.sfx_segments.proofs.Merging.{merge_begins, merge_goes_on, merge_shorter, merge_ends, not_at_end, at_end}
+use Rattle.sfx_segments.proofs.Passing.{not_empty}
 use Rattle.sfx_segments.proofs.merge.merged.Goals as goal
 
 pub merge-init : goal.merge-init
@@ -31,3 +32,15 @@ returns g c =
     merge_ends (g.J.Join.meaning c.args.how.now) c.args.xs.now c.args.ys.now
     c.merge.a.now c.merge.left.now c.merge.b.now c.merge.right.now c.merge.next c.merge.items.items
     c.merge.invariant (at_end c.ne.result c.merge.next c.ne.ensures c.merge-test.false)
+
+pub bounds-xs-0 : goal.bounds-xs-0
+bounds-xs-0 g c = not_empty c.args.xs.now c.requires.left
+
+pub bounds-ys-0 : goal.bounds-ys-0
+bounds-ys-0 g c = not_empty c.args.ys.now c.requires.right
+
+pub push_segment-requires : goal.push_segment-requires
+push_segment-requires g c = record {
+  front = c.merge.invariant.front;
+  place = not_at_end c.ne.result c.merge.next c.ne.ensures c.merge-test.true;
+}
