@@ -5,7 +5,7 @@ use std::error::Error;
 use std::fmt;
 
 /// Why bytes were not read as a name.
-#[derive(Clone, Copy, Debug, PartialEq, Eq, Hash)]
+#[derive(Clone, Copy, Debug, PartialEq, Eq)]
 pub enum NameFault {
     /// They are no name: the least index at which something is wrong.
     BadName(usize),

@@ -44,10 +44,10 @@ pub get_ends : {A : Type 0} (xs items : List (Cut × A)) (found : A) (i : ℕ) (
     value_at xs q ≡ Some (segment_at found (drop i items) q) → length items ≤ i → value_at xs q ≡ Some found
 get_ends xs items found i q at over = at ∙ ap (λ ahead. Some (segment_at found ahead q)) (drop_of_length-le items over)
 
--- one more segment that is copied
-pub copied_more : {A : Type 0} (xs made new : List (Cut × A)) (segment : Cut × A) (value : A) (i : ℕ) →
-    made ≡ take i xs → i < length xs → segment ≡ get_or xs i segment → value ≡ segment.1 →
-    new ≡ made ++ (segment.0, value) ∷ [] → new ≡ take (i + 1) xs
-copied_more xs made new segment value i so_far inside is same grown =
+-- one more pair that is copied
+pub copied_more : {A B : Type 0} (xs made new : List (A × B)) (pair : A × B) (value : B) (i : ℕ) →
+    made ≡ take i xs → i < length xs → pair ≡ get_or xs i pair → value ≡ pair.1 →
+    new ≡ made ++ (pair.0, value) ∷ [] → new ≡ take (i + 1) xs
+copied_more xs made new pair value i so_far inside is same grown =
     grown
-    ∙ rw (so_far, same) (sym (take_more xs i segment inside ∙ ap (λ s. take i xs ++ s ∷ []) (sym is)))
+    ∙ rw (so_far, same) (sym (take_more xs i pair inside ∙ ap (λ s. take i xs ++ s ∷ []) (sym is)))

@@ -299,3 +299,18 @@ join_at all old new whole i c from within is changed so_far r =
     join_step 0 old new c (drop (i + 1) all) left changed r
     ∙ ap (λ cs. max (tick_of old r) (tick_of cs r)) (sym split)
     ∙ so_far r
+
+-- ---- one vector within another
+
+-- an entry that is within the other vector, and the entries behind it
+pub within_more : (other items : Clocks) (entry : ℕ × ℕ) (i : ℕ) →
+    i < length items → entry ≡ get_or items i entry → entry.1 ≤ tick_of other entry.0 →
+    ((r : ℕ) → tick_of (drop (i + 1) items) r ≤ tick_of other r) → (r : ℕ) → tick_of (drop i items) r ≤ tick_of other r
+within_more other items entry i inside is below behind r = rw ahead (by_test (same_or_not entry.0 r))
+  where
+    ahead : drop i items ≡ entry ∷ drop (i + 1) items
+    ahead = drop-cons items i entry inside ∙ rw (add-one, ← is) refl
+
+    by_test : (entry.0 ≡ r) ⊎ (entry.0 ≢ r) → tick_of (entry ∷ drop (i + 1) items) r ≤ tick_of other r
+    by_test (inl same) = rw (tick-here entry (drop (i + 1) items) r same) (subst (λ q. entry.1 ≤ tick_of other q) same below)
+    by_test (inr apart) = rw (tick-past entry (drop (i + 1) items) r apart) (behind r)
