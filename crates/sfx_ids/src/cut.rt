@@ -10,7 +10,7 @@ use std::cmp::Ordering;
 /// A place between items, in order of their ids: `Start` is before all of them and `End` behind,
 /// `At` just before its item and `After` just behind it. A cut other than `End` is a place: `At(x)`
 /// is that of the item `x`, `After(x)` the gap behind it.
-#[derive(Clone, Copy, Debug, Hash)]
+#[derive(Clone, Copy, Debug)]
 pub enum Cut {
     Start,
     At(ItemId),

@@ -4,7 +4,7 @@ use crate::{ReplicaId, Tick, Version};
 
 /// The id of an item: the tick and the replica of its creation. Ids are ordered by tick, then by
 /// replica.
-#[derive(Clone, Copy, Debug, PartialEq, Eq, PartialOrd, Ord, Hash)]
+#[derive(Clone, Copy, Debug, PartialEq, Eq, PartialOrd, Ord)]
 pub struct ItemId {
     pub tick: Tick,
     pub replica: ReplicaId,

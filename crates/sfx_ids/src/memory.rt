@@ -5,7 +5,7 @@ use std::error::Error;
 use std::fmt;
 
 /// Want of memory: an allocation was refused.
-#[derive(Clone, Copy, Debug, PartialEq, Eq, Hash)]
+#[derive(Clone, Copy, Debug, PartialEq, Eq)]
 pub struct Memory;
 
 impl fmt::Display for Memory {

@@ -7,7 +7,7 @@ use std::marker::Model;
 pub const MAX_TICK: u64 = 9223372036854775807;
 
 /// A tick of a replica's clock: 1 to `MAX_TICK`.
-#[derive(Clone, Copy, Debug, PartialEq, Eq, PartialOrd, Ord, Hash)]
+#[derive(Clone, Copy, Debug, PartialEq, Eq, PartialOrd, Ord)]
 pub struct Tick {
     count: u64,
 }

@@ -1,7 +1,7 @@
 use crate::{ReplicaId, Tick};
 
 /// A version of a change unit: the replica that made it, and the tick of that replica's clock.
-#[derive(Clone, Copy, Debug, PartialEq, Eq, Hash)]
+#[derive(Clone, Copy, Debug, PartialEq, Eq)]
 pub struct Version {
     pub replica: ReplicaId,
     pub tick: Tick,

@@ -12,7 +12,7 @@ use std::error::Error;
 use std::fmt;
 
 /// A text that is no version's, and where it goes wrong.
-#[derive(Clone, Copy, Debug, PartialEq, Eq, Hash)]
+#[derive(Clone, Copy, Debug, PartialEq, Eq)]
 pub struct BadVersion {
     /// The length in bytes of the longest front of the text that begins some version's text. Where
     /// the whole text does, that is its length.
