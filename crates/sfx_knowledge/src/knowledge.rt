@@ -1,7 +1,8 @@
 ghost use Rattle.std.specs.Prelude.{◌≡◌, ◌↔◌, ◌≤◌, ◌<◌, length, slice_get, IsTrue, IfOk, OnOk};
 ghost use Rattle.sfx_ids.specs.Tick.{max_tick};
 ghost use Rattle.sfx_ids.specs.declared.cut.Cut.TheVariants.{At, After};
-ghost use Rattle.sfx_knowledge.specs.Knowledge.{IsKnowledge, nothing_known, clocks_at, tick_at, KnowsVersion, HasTicks, KnowAlike, IsWithin, joined, projected, learned, laid_over, IsMost};
+ghost use Rattle.sfx_segments.specs.Segments.{SetsRange};
+ghost use Rattle.sfx_knowledge.specs.Knowledge.{IsKnowledge, no_row, nothing_known, clocks_at, tick_at, KnowsVersion, HasTicks, KnowAlike, IsWithin, joined, projected, learned, laid_over, IsMost};
 ghost use Rattle.sfx_knowledge.specs.Places.{EveryRow, AtEachStart, WithinAt, Restores};
 ghost use Rattle.sfx_knowledge.specs.Row.{VectorWithin};
 ghost use Rattle.sfx_knowledge.specs.Forms.{with_own};
@@ -92,11 +93,10 @@ impl<const U: usize> Knowledge<U> {
         ensures ticks { IfOk result (λ k. HasTicks U k (projected lo.now hi.now (tick_at self.now))) }
         ensures form { IfOk result (IsKnowledge U) }
     {
-        let nothing = UnitRow::new(alloc, ClockVector::new(alloc));
-        let mut segments = self.segments.copy(alloc)?;
-        segments.set_range(&Cut::Start, lo, &nothing)?;
-        segments.set_range(hi, &Cut::End, &nothing)?;
-        Ok(Knowledge { segments })
+        let mut range = self.copy(alloc)?;
+        range.clear(alloc, &Cut::Start, lo)?;
+        range.clear(alloc, hi, &Cut::End)?;
+        Ok(range)
     }
 
     /// Joined with the other knowledge at the places from `lo` up to but not `hi`, but for the units that
@@ -254,6 +254,16 @@ impl<const U: usize> Knowledge<U> {
     {
         self.segments.start(i) == other.segments.start(i)
             && self.segments.value(i).same(other.segments.value(i))
+    }
+
+    /// Leaves nothing known at the places from `lo` up to but not `hi`.
+    fn clear(&mut self, alloc: Global, lo: &Cut, hi: &Cut) -> Result<(), Memory>
+        ensures ok { OnOk result (SetsRange self.old self.new lo.now hi.now no_row) }
+        ensures form { IsKnowledge U self.new }
+    {
+        let nothing = UnitRow::new(alloc, ClockVector::new(alloc));
+        self.segments.set_range(lo, hi, &nothing)?;
+        Ok(())
     }
 
     /// Gives the unit of the item the vector that the other knowledge has for it.
