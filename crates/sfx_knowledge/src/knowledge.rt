@@ -112,8 +112,10 @@ impl<const U: usize> Knowledge<U> {
         ensures ticks { IfOk result (λ k. HasTicks U k (learned lo.now hi.now skipped.now (tick_at self.now) (tick_at from.now))) }
         ensures form { IfOk result (IsKnowledge U) }
     {
-        let range = from.project_range(alloc, lo, hi)?;
-        let mut learned = self.union(alloc, &range)?;
+        let mut learned = {
+            let range = from.project_range(alloc, lo, hi)?;
+            self.union(alloc, &range)?
+        };
         for cell in skipped.cells() {
             if in_range(&cell.0, lo, hi) {
                 learned.restore(alloc, self, &cell.0, cell.1)?;
