@@ -8,6 +8,7 @@ pub mod LeftOut
 pub mod Fitting
 pub mod Groups
 pub mod Standing
+pub mod Exits
 pub mod Placing
 pub mod TakenCells
 pub mod Deciding

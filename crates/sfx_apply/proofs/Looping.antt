@@ -14,7 +14,7 @@ use Rattle.sfx_model.specs.Items.{item_view, state_view}
 use Rattle.sfx_model.specs.Members.{MemberItem, Member}
 use Rattle.sfx_model.specs.Moments.{committed, stops}
 use Rattle.sfx_model.specs.Rules.{skip_rules}
-use Rattle.sfx_model.specs.Session.{Outcome, applied, go, is_live_state, is_more, tasks_of}
+use Rattle.sfx_model.specs.Session.{AppliedBatch, Outcome, applied, applied_batch, go, is_live_state, is_more, tasks_of}
 use Rattle.sfx_model.specs.Sets.{Has}
 use Rattle.sfx_provider.specs.Course.{CameInPart}
 use Rattle.sfx_provider.proofs.Courses.{opened}
@@ -256,3 +256,32 @@ batch_fault came broke p q r units b group had budget n m on read same same_budg
     read_before came broke p q r (committed group (applied units b skip_rules budget m).moments) on read
     (subst (λ (x : Member). CameInPart came broke q r (committed group (applied units b skip_rules budget x).moments)) same
     (subst (λ (o : Option ℕ). CameInPart came broke q r (committed group (applied units b skip_rules o n).moments)) same_budget fault))
+
+pub batch_kept :
+    (kept : Option Member) (units : ℕ) (b : Batch) (group : ℕ) (had budget : Option ℕ) (n m : Member)
+    → n ≡ m → had ≡ budget
+    → IsKeptIn kept (stops group n (applied units b skip_rules had n).moments) → IsKeptIn kept (stops group m (applied units b skip_rules budget m).moments)
+batch_kept kept units b group had budget n m same same_budget is =
+    subst (λ (x : Member). IsKeptIn kept (stops group x (applied units b skip_rules budget x).moments)) same
+    (subst (λ (o : Option ℕ). IsKeptIn kept (stops group n (applied units b skip_rules o n).moments)) same_budget is)
+
+-- Nor of what is told of the batch, and what the provider came by.
+pub batch_report :
+    (units : ℕ) (b : Batch) (had budget : Option ℕ) (n m : Member) (a : AppliedBatch)
+    → n ≡ m → had ≡ budget
+    → a ≡ applied_batch (applied units b skip_rules had n) → a ≡ applied_batch (applied units b skip_rules budget m)
+batch_report units b had budget n m a same same_budget is =
+    is ∙ ap (λ (o : Option ℕ). applied_batch (applied units b skip_rules o n)) same_budget
+    ∙ ap (λ (x : Member). applied_batch (applied units b skip_rules budget x)) same
+
+pub batch_came :
+    {P : Type 0} (came : P → P → List Member → Type 0) (p q r : P) (units : ℕ) (b : Batch) (group : ℕ)
+    (had budget : Option ℕ) (n m : Member)
+    → ((x y z : P) (xs : List Member) → came x y [] → came y z xs → came x z xs)
+    → came p q [] → n ≡ m → had ≡ budget
+    → came q r (committed group (applied units b skip_rules had n).moments)
+    → came p r (committed group (applied units b skip_rules budget m).moments)
+batch_came came p q r units b group had budget n m on read same same_budget is =
+    on p q r (committed group (applied units b skip_rules budget m).moments) read
+    (subst (λ (x : Member). came q r (committed group (applied units b skip_rules budget x).moments)) same
+    (subst (λ (o : Option ℕ). came q r (committed group (applied units b skip_rules o n).moments)) same_budget is))

@@ -515,6 +515,28 @@ step_kept kept units due due' w w' m m' same_due same_work same_state is =
     (subst (λ (x : WorkData). IsKeptIn kept (m ∷ states_if units due' x m)) same_work
     (subst (λ (d : Bool). IsKeptIn kept (m ∷ states_if units d w m)) same_due is))
 
+-- What a commit in a step leaves, by the words of the step.
+pub step_work :
+    (due due' : Bool) (w w' after : WorkData) → due ≡ due' → w ≡ w' → after ≡ work_if due w → after ≡ work_if due' w'
+step_work due due' w w' after same_due same_work is =
+    is ∙ ap (λ (d : Bool). work_if d w) same_due ∙ ap (work_if due') same_work
+
+pub step_state :
+    (units : ℕ) (due due' : Bool) (w w' : WorkData) (m m' n : Member)
+    → due ≡ due' → w ≡ w' → m ≡ m' → n ≡ state_if units due w m → n ≡ state_if units due' w' m'
+step_state units due due' w w' m m' n same_due same_work same_state is =
+    is ∙ ap (λ (d : Bool). state_if units d w m) same_due ∙ ap (λ (x : WorkData). state_if units due' x m) same_work ∙ ap (state_if units due' w') same_state
+
+pub step_came :
+    {P : Type 0} (came : P → P → List Member → Type 0) (p q r : P) (units : ℕ) (due due' : Bool) (w w' : WorkData) (m m' : Member)
+    → ((a b c : P) (xs : List Member) → came a b [] → came b c xs → came a c xs)
+    → due ≡ due' → w ≡ w' → m ≡ m' → came p q [] → came q r (states_if units due w m) → came p r (states_if units due' w' m')
+step_came came p q r units due due' w w' m m' on same_due same_work same_state read is =
+    on p q r (states_if units due' w' m') read
+    (subst (λ (x : Member). came q r (states_if units due' w' x)) same_state
+    (subst (λ (x : WorkData). came q r (states_if units due' x m)) same_work
+    (subst (λ (d : Bool). came q r (states_if units d w m)) same_due is)))
+
 -- Whether a commit is due, by the words of the step.
 pub same_due :
     (group count : ℕ) (more due : Bool) (end end' : Option ApplyEnd) (w w' : WorkData)

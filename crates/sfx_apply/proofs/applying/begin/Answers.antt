@@ -1,19 +1,35 @@
-use Rattle.std.proofs.Common.{ap, ◌∙◌}
+use Rattle.std.proofs.Common.{Some, ap, le_trans, refl, sym, subst, ◌∙◌}
 use Rattle.std.proofs.lemmas.Result.{err_from_is_err_and}
+use Rattle.std.specs.Prelude.{IfSome}
 use Rattle.sfx_model.specs.Batch.{Batch}
 use Rattle.sfx_model.specs.Knowing.{ahead_of}
 use Rattle.sfx_provider.specs.Head.{HeadData}
 use Rattle.sfx_apply.proofs.Bringing.{tells_other}
+use Rattle.sfx_apply.proofs.Exits.{if_ok_never, ok_never, told_still}
 use Rattle.sfx_apply.proofs.Fitting.{head_waits}
 use Rattle.sfx_apply.proofs.Greatest.{before_tick, behind_clock, tick_found}
 use Rattle.sfx_apply.proofs.applying.begin.Goals as goal
 
-pub returns-in_err-head-clause-ahead : goal.returns-in_err-head-clause-ahead
-returns-in_err-head-clause-ahead g c =
-    let exit = err_from_is_err_and c.from_residual.result c.from_residual.ensures.1 in
-    let m = g.P.Provider.state c.args.provider.now in
+pub returns-in_err-head : goal.returns-in_err-head
+returns-in_err-head g c =
+    let p = g.P.Provider in
+    let m = p.state c.args.provider.now in
     let b = c.args.batch.now in
-    rw (exit.1, exit.2) (tells_other (ahead_of m b.made_with b.forgotten) m.clock _ c.in_err-head.ensures.not_ahead)
+    let r = c.from_residual.result in
+    let is = c.from_residual.ensures.1 in
+    let exit = err_from_is_err_and r is in
+    let failed = c.in_err-head.ensures in
+    let untouched = failed.untouched in record {
+      begun = if_ok_never _ _ r is;
+      budget = if_ok_never _ _ r is;
+      waits = if_ok_never _ _ r is;
+      no_more = ok_never _ _ r is;
+      orderly = ok_never _ _ r is;
+      ahead = rw (exit.1, exit.2) (tells_other (ahead_of m b.made_with b.forgotten) m.clock _ failed.not_ahead);
+      told = told_still (p.kept c.args.provider.now) (p.kept c.head_of.new.provider) m (p.state c.head_of.new.provider) untouched.1 untouched.0 c.requires.told;
+      untouched = untouched;
+      cause = rw (exit.1, exit.2) failed.cause;
+    }
 
 pub returns-then-tick-clock-clause-ahead : goal.returns-then-tick-clock-clause-ahead
 returns-then-tick-clock-clause-ahead g c =

@@ -1,51 +1,95 @@
-use Rattle.std.proofs.Common.{ap, sym, ◌∙◌}
+use Rattle.std.proofs.Common.{ap, le_refl, le_trans, refl, sym, ◌∙◌}
 use Rattle.sfx_model.specs.Draft.{Draft}
 use Rattle.sfx_model.specs.Items.{item_view}
 use Rattle.sfx_apply.proofs.Entering.{read_turn, spent_turn}
+use Rattle.sfx_apply.proofs.Exits.{cause_handed, cause_later, cause_memory, if_ok_never, ok_never}
 use Rattle.sfx_apply.proofs.turn.turn.Goals as goal
 
-pub returns-then-is_spent-clause-value : goal.returns-then-is_spent-clause-value
-returns-then-is_spent-clause-value g c =
-    (spent_turn g.row.U c.args.batch.now (item_view c.args.change.now) c.args.work.now (g.P.Provider.state c.args.provider.now)
-    (sym c.is_spent.ensures ∙ c.if-is_spent.true)).0
+pub returns-then-is_spent : goal.returns-then-is_spent
+returns-then-is_spent g c =
+    let spent = spent_turn g.row.U c.args.batch.now (item_view c.args.change.now) c.args.work.now (g.P.Provider.state c.args.provider.now)
+    (sym c.is_spent.ensures ∙ c.if-is_spent.true) in record {
+      value = spent.0;
+      work = spent.1;
+      waits = c.requires.waits;
+      state = refl;
+      kept = refl;
+      came = g.met.P.Provider.came_self c.args.provider.now;
+      consistent = c.keeps-2.ensures.consistent;
+      cause = le_refl _;
+    }
 
-pub returns-then-is_spent-clause-work : goal.returns-then-is_spent-clause-work
-returns-then-is_spent-clause-work g c =
-    (spent_turn g.row.U c.args.batch.now (item_view c.args.change.now) c.args.work.now (g.P.Provider.state c.args.provider.now)
-    (sym c.is_spent.ensures ∙ c.if-is_spent.true)).1
+pub returns-in_err-local : goal.returns-in_err-local
+returns-in_err-local g c =
+    let p = g.P.Provider in
+    let r = c.from_residual.result in
+    let is = c.from_residual.ensures.1 in
+    let failed = c.in_err-local.ensures in record {
+      value = if_ok_never _ _ r is;
+      work = ok_never _ _ r is;
+      waits = ok_never _ _ r is;
+      state = failed.state;
+      kept = failed.kept;
+      came = failed.came;
+      consistent = c.keeps-2.ensures.consistent;
+      cause = cause_handed (p.faults c.args.provider.now) (p.faults c.item_now.new.provider) c.in_err-local.field-0.0 r is failed.cause;
+    }
 
-pub returns-clause-value : goal.returns-clause-value
-returns-clause-value g c =
-    (read_turn c.args.batch.now (item_view c.args.change.now) c.args.work.now c.add.new.self (g.P.Provider.state c.args.provider.now)
-    (g.P.Provider.state c.item_now.new.provider) c.as_ref-2.result c.in_ok-local.local c.in_ok-draft.draft c.draft.inside.marks
+pub returns-in_err-draft : goal.returns-in_err-draft
+returns-in_err-draft g c =
+    let p = g.P.Provider in
+    let now = c.args.provider.now in
+    let r = c.from_residual-in_err-draft.result in
+    let is = c.from_residual-in_err-draft.ensures.1 in
+    let read = c.in_ok-local.ensures in
+    let failed = c.in_err-draft.ensures in record {
+      value = if_ok_never _ _ r is;
+      work = ok_never _ _ r is;
+      waits = ok_never _ _ r is;
+      state = failed.state ∙ read.state;
+      kept = failed.kept ∙ read.kept;
+      came = g.met.P.Provider.came_read now c.item_now.new.provider c.planned.new.provider _ read.came failed.came;
+      consistent = c.keeps-2.ensures.consistent;
+      cause = cause_handed (p.faults now) (p.faults c.planned.new.provider) c.in_err-draft.field-0.0 r is
+          (cause_later (p.faults now) (p.faults c.item_now.new.provider) (p.faults c.planned.new.provider) c.in_err-draft.field-0.0 read.cause failed.cause);
+    }
+
+pub returns-in_err-add : goal.returns-in_err-add
+returns-in_err-add g c =
+    let p = g.P.Provider in
+    let now = c.args.provider.now in
+    let r = c.from_residual-in_err-add.result in
+    let is = c.from_residual-in_err-add.ensures.1 in
+    let read = c.in_ok-local.ensures in
+    let made = c.in_ok-draft.ensures in record {
+      value = if_ok_never _ _ r is;
+      work = ok_never _ _ r is;
+      waits = ok_never _ _ r is;
+      state = made.state ∙ read.state;
+      kept = made.kept ∙ read.kept;
+      came = g.met.P.Provider.came_read now c.item_now.new.provider c.planned.new.provider _ read.came made.came;
+      consistent = c.keeps-2.ensures.consistent;
+      cause = cause_memory (p.faults now) (p.faults c.planned.new.provider) r is (le_trans read.cause made.cause);
+    }
+
+pub returns : goal.returns
+returns g c =
+    let p = g.P.Provider in
+    let now = c.args.provider.now in
+    let read = c.in_ok-local.ensures in
+    let made = c.in_ok-draft.ensures in
+    let added = c.in_ok-add.ensures in
+    let taken = read_turn c.args.batch.now (item_view c.args.change.now) c.args.work.now c.add.new.self (p.state now)
+    (p.state c.item_now.new.provider) c.as_ref-2.result c.in_ok-local.local c.in_ok-draft.draft c.draft.inside.marks
     c.keeps-2.ensures.consistent c.requires.waits c.keeps.ensures.batch c.requires.no_more c.requires.sent (sym c.is_spent.ensures ∙ c.if-is_spent.false)
-    c.as_ref-2.ensures.value c.in_ok-local.ensures.value c.in_ok-local.ensures.state (ap (λ (d : Draft). d.marks) c.draft.view_is) c.in_ok-draft.ensures.value
-    c.in_ok-add.ensures.pending c.in_ok-add.ensures.entries c.in_ok-add.ensures.budget).0
-
-pub returns-clause-work : goal.returns-clause-work
-returns-clause-work g c =
-    (read_turn c.args.batch.now (item_view c.args.change.now) c.args.work.now c.add.new.self (g.P.Provider.state c.args.provider.now)
-    (g.P.Provider.state c.item_now.new.provider) c.as_ref-2.result c.in_ok-local.local c.in_ok-draft.draft c.draft.inside.marks
-    c.keeps-2.ensures.consistent c.requires.waits c.keeps.ensures.batch c.requires.no_more c.requires.sent (sym c.is_spent.ensures ∙ c.if-is_spent.false)
-    c.as_ref-2.ensures.value c.in_ok-local.ensures.value c.in_ok-local.ensures.state (ap (λ (d : Draft). d.marks) c.draft.view_is) c.in_ok-draft.ensures.value
-    c.in_ok-add.ensures.pending c.in_ok-add.ensures.entries c.in_ok-add.ensures.budget).1
-
-pub returns-clause-waits : goal.returns-clause-waits
-returns-clause-waits g c =
-    (read_turn c.args.batch.now (item_view c.args.change.now) c.args.work.now c.add.new.self (g.P.Provider.state c.args.provider.now)
-    (g.P.Provider.state c.item_now.new.provider) c.as_ref-2.result c.in_ok-local.local c.in_ok-draft.draft c.draft.inside.marks
-    c.keeps-2.ensures.consistent c.requires.waits c.keeps.ensures.batch c.requires.no_more c.requires.sent (sym c.is_spent.ensures ∙ c.if-is_spent.false)
-    c.as_ref-2.ensures.value c.in_ok-local.ensures.value c.in_ok-local.ensures.state (ap (λ (d : Draft). d.marks) c.draft.view_is) c.in_ok-draft.ensures.value
-    c.in_ok-add.ensures.pending c.in_ok-add.ensures.entries c.in_ok-add.ensures.budget).2
-
-pub returns-in_err-draft-clause-came : goal.returns-in_err-draft-clause-came
-returns-in_err-draft-clause-came g c =
-    g.met.P.Provider.came_read c.args.provider.now c.item_now.new.provider c.planned.new.provider _ c.in_ok-local.ensures.came c.in_err-draft.ensures.came
-
-pub returns-in_err-add-clause-came : goal.returns-in_err-add-clause-came
-returns-in_err-add-clause-came g c =
-    g.met.P.Provider.came_read c.args.provider.now c.item_now.new.provider c.planned.new.provider _ c.in_ok-local.ensures.came c.in_ok-draft.ensures.came
-
-pub returns-clause-came : goal.returns-clause-came
-returns-clause-came g c =
-    g.met.P.Provider.came_read c.args.provider.now c.item_now.new.provider c.planned.new.provider _ c.in_ok-local.ensures.came c.in_ok-draft.ensures.came
+    c.as_ref-2.ensures.value read.value read.state (ap (λ (d : Draft). d.marks) c.draft.view_is) made.value
+    added.pending added.entries added.budget in record {
+      value = taken.0;
+      work = taken.1;
+      waits = taken.2;
+      state = made.state ∙ read.state;
+      kept = made.kept ∙ read.kept;
+      came = g.met.P.Provider.came_read now c.item_now.new.provider c.planned.new.provider _ read.came made.came;
+      consistent = c.keeps-2.ensures.consistent;
+      cause = le_trans read.cause made.cause;
+    }
