@@ -1,4 +1,5 @@
-use Rattle.std.proofs.Common.{◌≡◌, [], Some, None, ap, sym, refl, rules, subst, length, ◌<◌, arith, ◌∙◌}
+use Rattle.std.proofs.Common.{◌≡◌, [], Some, None, ap, sym, refl, rules, subst, length, ◌<◌, arith, le_trans, ◌∙◌}
+use Rattle.std.proofs.lemmas.Result.{err_from_is_err_and}
 use Rattle.sfx_ids.specs.declared.cut.Cut.{Cut}
 use Rattle.sfx_model.specs.Readings.{items_from}
 use Rattle.sfx_model.specs.declared.mode.Mode.TheVariants.{Normal}
@@ -11,7 +12,8 @@ use Rattle.sfx_model.proofs.Bounds.{less}
 use Rattle.sfx_session.specs.Report.{ReportData, report_of, skipping}
 use Rattle.sfx_session.specs.Travel.{TravelData, arrival, due_batch, due_outcome, travelled}
 use Rattle.sfx_session.proofs.Acting.{session_acts}
-use Rattle.sfx_session.proofs.Answered.{on_err_always}
+use Rattle.sfx_apply.proofs.Exits.{if_ok_never, ok_never}
+use Rattle.sfx_session.proofs.Answered.{causes_on, no_refusal_ahead, on_err_always, on_refusal_always, refusal_never}
 use Rattle.sfx_session.proofs.Refusing.{free}
 use Rattle.sfx_session.proofs.Skipping.{ahead_stays, outcome_stays, session_done}
 use Rattle.sfx_session.proofs.Travels.{fault_on, goes_to_place, kept_on, batch_ends, travel_begins, travel_on}
@@ -62,9 +64,101 @@ returns-in_err-end-clause-kept g c =
     i.travels (rw i.source at c.in_err-end.ensures.kept) in
     search (rules, on_err_always c.from_residual-in_err-end.result kept)
 
+pub returns-in_err-refuse-clause-report : goal.returns-in_err-refuse-clause-report
+returns-in_err-refuse-clause-report g c = if_ok_never _ _ c.from_residual.result c.from_residual.ensures.1
+
+pub returns-in_err-refuse-clause-state : goal.returns-in_err-refuse-clause-state
+returns-in_err-refuse-clause-state g c = ok_never _ _ c.from_residual.result c.from_residual.ensures.1
+
+pub returns-in_err-refuse-clause-told : goal.returns-in_err-refuse-clause-told
+returns-in_err-refuse-clause-told g c = ok_never _ _ c.from_residual.result c.from_residual.ensures.1
+
+pub returns-in_err-refuse-clause-came : goal.returns-in_err-refuse-clause-came
+returns-in_err-refuse-clause-came g c = ok_never _ _ c.from_residual.result c.from_residual.ensures.1
+
+pub returns-in_err-refuse-clause-acts : goal.returns-in_err-refuse-clause-acts
+returns-in_err-refuse-clause-acts g c = ok_never _ _ c.from_residual.result c.from_residual.ensures.1
+
+pub returns-in_err-refuse-clause-source : goal.returns-in_err-refuse-clause-source
+returns-in_err-refuse-clause-source g c = c.in_err-refuse.ensures.source
+
+pub returns-in_err-refuse-clause-source_kept : goal.returns-in_err-refuse-clause-source_kept
+returns-in_err-refuse-clause-source_kept g c = c.in_err-refuse.ensures.source_kept
+
+pub returns-in_err-refuse-clause-source_came : goal.returns-in_err-refuse-clause-source_came
+returns-in_err-refuse-clause-source_came g c = c.in_err-refuse.ensures.source_came
+
+pub returns-in_err-refuse-clause-cause : goal.returns-in_err-refuse-clause-cause
+returns-in_err-refuse-clause-cause g c =
+    let exit = err_from_is_err_and c.from_residual.result c.from_residual.ensures.1 in
+    rw (exit.1, exit.2) c.in_err-refuse.ensures.cause
+
+pub returns-in_err-refuse-clause-unchanged : goal.returns-in_err-refuse-clause-unchanged
+returns-in_err-refuse-clause-unchanged g c = on_refusal_always c.from_residual.result c.in_err-refuse.ensures.state
+
+pub returns-in_err-refuse-clause-unchanged_kept : goal.returns-in_err-refuse-clause-unchanged_kept
+returns-in_err-refuse-clause-unchanged_kept g c = on_refusal_always c.from_residual.result c.in_err-refuse.ensures.kept
+
+pub returns-in_err-refuse-clause-unchanged_came : goal.returns-in_err-refuse-clause-unchanged_came
+returns-in_err-refuse-clause-unchanged_came g c = on_refusal_always c.from_residual.result c.in_err-refuse.ensures.came
+
 pub returns-in_err-refuse-clause-not_ahead : goal.returns-in_err-refuse-clause-not_ahead
-returns-in_err-refuse-clause-not_ahead g c = λ w part.
-    search (rules, c.in_err-refuse.ensures.not_ahead w part)
+returns-in_err-refuse-clause-not_ahead g c =
+    let exit = err_from_is_err_and c.from_residual.result c.from_residual.ensures.1 in
+    λ w part. rw (exit.1, exit.2) (c.in_err-refuse.ensures.not_ahead w part)
+
+pub returns-in_err-end-clause-report : goal.returns-in_err-end-clause-report
+returns-in_err-end-clause-report g c = if_ok_never _ _ c.from_residual-in_err-end.result c.from_residual-in_err-end.ensures.1
+
+pub returns-in_err-end-clause-state : goal.returns-in_err-end-clause-state
+returns-in_err-end-clause-state g c = ok_never _ _ c.from_residual-in_err-end.result c.from_residual-in_err-end.ensures.1
+
+pub returns-in_err-end-clause-told : goal.returns-in_err-end-clause-told
+returns-in_err-end-clause-told g c = ok_never _ _ c.from_residual-in_err-end.result c.from_residual-in_err-end.ensures.1
+
+pub returns-in_err-end-clause-came : goal.returns-in_err-end-clause-came
+returns-in_err-end-clause-came g c = ok_never _ _ c.from_residual-in_err-end.result c.from_residual-in_err-end.ensures.1
+
+pub returns-in_err-end-clause-acts : goal.returns-in_err-end-clause-acts
+returns-in_err-end-clause-acts g c = ok_never _ _ c.from_residual-in_err-end.result c.from_residual-in_err-end.ensures.1
+
+pub returns-in_err-end-clause-source : goal.returns-in_err-end-clause-source
+returns-in_err-end-clause-source g c = c.in_err-end.ensures.source ∙ c.batches.invariant.source
+
+pub returns-in_err-end-clause-source_kept : goal.returns-in_err-end-clause-source_kept
+returns-in_err-end-clause-source_kept g c = c.in_err-end.ensures.source_kept ∙ c.batches.invariant.source_kept
+
+pub returns-in_err-end-clause-source_came : goal.returns-in_err-end-clause-source_came
+returns-in_err-end-clause-source_came g c = g.met.P.Provider.came_read c.args.source.now c.batches.source c.one_batch.new.source [] c.batches.invariant.source_came c.in_err-end.ensures.source_came
+
+pub returns-in_err-end-clause-cause : goal.returns-in_err-end-clause-cause
+returns-in_err-end-clause-cause g c =
+    let p = g.P.Provider in
+    let q = g.Q.Provider in
+    let exit = err_from_is_err_and c.from_residual-in_err-end.result c.from_residual-in_err-end.ensures.1 in
+    rw (exit.1, exit.2)
+    (causes_on (p.faults c.args.source.now) (p.faults c.batches.source) (p.faults c.one_batch.new.source) (q.faults c.args.destination.now) (q.faults c.batches.destination)
+    (q.faults c.one_batch.new.destination) _ c.batches.invariant.source_faults c.batches.invariant.faults c.in_err-end.ensures.cause)
+
+pub returns-in_err-end-clause-unchanged : goal.returns-in_err-end-clause-unchanged
+returns-in_err-end-clause-unchanged g c =
+    let exit = err_from_is_err_and c.from_residual-in_err-end.result c.from_residual-in_err-end.ensures.1 in
+    rw (exit.1, exit.2) (refusal_never _ _ c.in_err-end.ensures.fault_alone)
+
+pub returns-in_err-end-clause-unchanged_kept : goal.returns-in_err-end-clause-unchanged_kept
+returns-in_err-end-clause-unchanged_kept g c =
+    let exit = err_from_is_err_and c.from_residual-in_err-end.result c.from_residual-in_err-end.ensures.1 in
+    rw (exit.1, exit.2) (refusal_never _ _ c.in_err-end.ensures.fault_alone)
+
+pub returns-in_err-end-clause-unchanged_came : goal.returns-in_err-end-clause-unchanged_came
+returns-in_err-end-clause-unchanged_came g c =
+    let exit = err_from_is_err_and c.from_residual-in_err-end.result c.from_residual-in_err-end.ensures.1 in
+    rw (exit.1, exit.2) (refusal_never _ _ c.in_err-end.ensures.fault_alone)
+
+pub returns-in_err-end-clause-not_ahead : goal.returns-in_err-end-clause-not_ahead
+returns-in_err-end-clause-not_ahead g c =
+    let exit = err_from_is_err_and c.from_residual-in_err-end.result c.from_residual-in_err-end.ensures.1 in
+    λ w part. rw (exit.1, exit.2) (no_refusal_ahead _ c.in_err-end.ensures.fault_alone)
 
 pub returns-in-Some-clause-report : goal.returns-in-Some-clause-report
 returns-in-Some-clause-report g c =
@@ -79,7 +173,7 @@ returns-in-Some-clause-report g c =
     g.met.Q.Provider.came_on i.travels i.source done.end c.in-Some.is done.travel done.state done.came in
     let free = free g.row.U source first c.in_ok-refuse.ensures.refused in
     let all : c.report.result ≡ report_of g.row.U source first c.args.size c.args.cut = c.report.ensures ∙ rw (free.normal, ← ended.steps, ← ended.end_is) refl in
-    search (rules, all)
+    all
 
 pub returns-in-Some-clause-state : goal.returns-in-Some-clause-state
 returns-in-Some-clause-state g c =
@@ -120,7 +214,7 @@ returns-in-Some-clause-done g c =
     g.met.Q.Provider.came_on i.travels i.source done.end c.in-Some.is done.travel done.state done.came in
     let done : c.args.cut ≡ None → c.report.result.end ≡ Done =
     λ none. ap (λ (r : ReportData). r.end) c.report.ensures ∙ ended.end_is ∙ session_done g.row.U source first c.args.size c.args.cut none in
-    search (rules, done)
+    done
 
 pub returns-in-Some-clause-acts : goal.returns-in-Some-clause-acts
 returns-in-Some-clause-acts g c =
@@ -135,7 +229,43 @@ returns-in-Some-clause-acts g c =
     g.met.Q.Provider.came_on i.travels i.source done.end c.in-Some.is done.travel done.state done.came in
     let orderly = c.in_ok-refuse.ensures.orderly in
     let acts = session_acts g.row.U source first (q.state c.one_batch.new.destination) c.args.size c.args.cut orderly.0 orderly.1 c.requires.size ended.member in
-    search (rules, acts)
+    acts
+
+pub returns-in-Some-clause-told : goal.returns-in-Some-clause-told
+returns-in-Some-clause-told g c = c.in_ok-end.ensures.told
+
+pub returns-in-Some-clause-fault : goal.returns-in-Some-clause-fault
+returns-in-Some-clause-fault g c = tt
+
+pub returns-in-Some-clause-kept : goal.returns-in-Some-clause-kept
+returns-in-Some-clause-kept g c = tt
+
+pub returns-in-Some-clause-unchanged : goal.returns-in-Some-clause-unchanged
+returns-in-Some-clause-unchanged g c = tt
+
+pub returns-in-Some-clause-unchanged_kept : goal.returns-in-Some-clause-unchanged_kept
+returns-in-Some-clause-unchanged_kept g c = tt
+
+pub returns-in-Some-clause-unchanged_came : goal.returns-in-Some-clause-unchanged_came
+returns-in-Some-clause-unchanged_came g c = tt
+
+pub returns-in-Some-clause-source : goal.returns-in-Some-clause-source
+returns-in-Some-clause-source g c = c.in_ok-end.ensures.source ∙ c.batches.invariant.source
+
+pub returns-in-Some-clause-source_kept : goal.returns-in-Some-clause-source_kept
+returns-in-Some-clause-source_kept g c = c.in_ok-end.ensures.source_kept ∙ c.batches.invariant.source_kept
+
+pub returns-in-Some-clause-source_came : goal.returns-in-Some-clause-source_came
+returns-in-Some-clause-source_came g c = g.met.P.Provider.came_read c.args.source.now c.batches.source c.one_batch.new.source [] c.batches.invariant.source_came c.in_ok-end.ensures.source_came
+
+pub returns-in-Some-clause-cause : goal.returns-in-Some-clause-cause
+returns-in-Some-clause-cause g c = (le_trans c.batches.invariant.source_faults c.in_ok-end.ensures.cause.0, le_trans c.batches.invariant.faults c.in_ok-end.ensures.cause.1)
+
+pub returns-in-Some-clause-refused : goal.returns-in-Some-clause-refused
+returns-in-Some-clause-refused g c = c.in_ok-refuse.ensures.refused
+
+pub returns-in-Some-clause-not_ahead : goal.returns-in-Some-clause-not_ahead
+returns-in-Some-clause-not_ahead g c = λ w part. tt
 
 pub batches-smaller : goal.batches-smaller
 batches-smaller g c =
