@@ -1,6 +1,5 @@
-use Rattle.std.proofs.Common.{Some, ap, le_trans, refl, sym, subst, ◌∙◌}
+use Rattle.std.proofs.Common.{ap, refl, ◌∙◌}
 use Rattle.std.proofs.lemmas.Result.{err_from_is_err_and}
-use Rattle.std.specs.Prelude.{IfSome}
 use Rattle.sfx_model.specs.Batch.{Batch}
 use Rattle.sfx_model.specs.Knowing.{ahead_of}
 use Rattle.sfx_provider.specs.Head.{HeadData}
@@ -59,3 +58,45 @@ returns-clause-no_more g c =
     (ap (λ (x : Batch). x.made_with) c.batch.view_is) (ap (λ (x : Batch). x.forgotten) c.batch.view_is) c.most_known-tick.ensures in
     behind_clock g.row.U c.head.inside.clock c.most_known-tick.result m (p.state c.head_of.new.provider) b c.in_ok-head.head
     c.keeps.ensures.batch c.in_ok-head.ensures.value c.in_ok-head.ensures.untouched.0 (ap (λ (h : HeadData). h.clock) c.head.view_is) tick c.if-tick-clock.false
+
+pub returns-then-tick-clock-clause-begun : goal.returns-then-tick-clock-clause-begun
+returns-then-tick-clock-clause-begun g c = tt
+
+pub returns-then-tick-clock-clause-budget : goal.returns-then-tick-clock-clause-budget
+returns-then-tick-clock-clause-budget g c = tt
+
+pub returns-then-tick-clock-clause-waits : goal.returns-then-tick-clock-clause-waits
+returns-then-tick-clock-clause-waits g c = tt
+
+pub returns-then-tick-clock-clause-no_more : goal.returns-then-tick-clock-clause-no_more
+returns-then-tick-clock-clause-no_more g c = tt
+
+pub returns-then-tick-clock-clause-orderly : goal.returns-then-tick-clock-clause-orderly
+returns-then-tick-clock-clause-orderly g c = tt
+
+pub returns-then-tick-clock-clause-told : goal.returns-then-tick-clock-clause-told
+returns-then-tick-clock-clause-told g c =
+    let p = g.P.Provider in
+    told_still (p.kept c.args.provider.now) (p.kept c.head_of.new.provider) (p.state c.args.provider.now) (p.state c.head_of.new.provider)
+    c.in_ok-head.ensures.untouched.1 c.in_ok-head.ensures.untouched.0 c.requires.told
+
+pub returns-then-tick-clock-clause-untouched : goal.returns-then-tick-clock-clause-untouched
+returns-then-tick-clock-clause-untouched g c = c.in_ok-head.ensures.untouched
+
+pub returns-then-tick-clock-clause-cause : goal.returns-then-tick-clock-clause-cause
+returns-then-tick-clock-clause-cause g c = c.in_ok-head.ensures.cause
+
+pub returns-clause-budget : goal.returns-clause-budget
+returns-clause-budget g c = refl
+
+pub returns-clause-told : goal.returns-clause-told
+returns-clause-told g c =
+    let p = g.P.Provider in
+    told_still (p.kept c.args.provider.now) (p.kept c.head_of.new.provider) (p.state c.args.provider.now) (p.state c.head_of.new.provider)
+    c.in_ok-head.ensures.untouched.1 c.in_ok-head.ensures.untouched.0 c.requires.told
+
+pub returns-clause-untouched : goal.returns-clause-untouched
+returns-clause-untouched g c = c.in_ok-head.ensures.untouched
+
+pub returns-clause-cause : goal.returns-clause-cause
+returns-clause-cause g c = c.in_ok-head.ensures.cause

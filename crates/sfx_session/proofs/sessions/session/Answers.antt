@@ -1,4 +1,4 @@
-use Rattle.std.proofs.Common.{◌≡◌, [], Some, None, ap, sym, refl, rules, subst, length, ◌<◌, arith, le_trans, ◌∙◌}
+use Rattle.std.proofs.Common.{◌≡◌, [], None, ap, sym, refl, rules, subst, length, ◌<◌, arith, le_trans, ◌∙◌}
 use Rattle.std.proofs.lemmas.Result.{err_from_is_err_and}
 use Rattle.sfx_ids.specs.declared.cut.Cut.{Cut}
 use Rattle.sfx_model.specs.Readings.{items_from}
@@ -15,7 +15,7 @@ use Rattle.sfx_session.proofs.Acting.{session_acts}
 use Rattle.sfx_apply.proofs.Exits.{if_ok_never, ok_never}
 use Rattle.sfx_session.proofs.Answered.{causes_on, no_refusal_ahead, on_err_always, on_refusal_always, refusal_never}
 use Rattle.sfx_session.proofs.Refusing.{free}
-use Rattle.sfx_session.proofs.Skipping.{ahead_stays, outcome_stays, session_done}
+use Rattle.sfx_session.proofs.Skipping.{session_done}
 use Rattle.sfx_session.proofs.Travels.{fault_on, goes_to_place, kept_on, batch_ends, travel_begins, travel_on}
 use Rattle.sfx_session.proofs.sessions.session.Goals as goal
 
