@@ -1,7 +1,7 @@
 -- Items that are looked for one after another, up to a limit.
-use Rattle.std.proofs.Common.{◌≡◌, ℕ, suc, ◌+◌, ◌-◌, ◌<◌, ◌≤◌, Bool, true, false, ◌&&◌, if◌then◌else◌, List, [], ◌∷◌, ◌++◌, length, take, drop, get_or, map, refl, sym, ◌∙◌, ap, append_assoc, add-one, arith}
+use Rattle.std.proofs.Common.{◌≡◌, ℕ, suc, ◌+◌, ◌-◌, ◌<◌, ◌≤◌, Bool, true, false, ◌&&◌, List, [], ◌∷◌, ◌++◌, length, take, drop, get_or, map, refl, sym, ◌∙◌, ap, append_assoc, add-one, subst, arith}
 use Rattle.std.proofs.Math.Seq.{drop-cons, take-nil}
-use Rattle.std.proofs.lemmas.List.{append-nil, length-append}
+use Rattle.std.proofs.lemmas.List.{append-nil, drop_all, length-append}
 use Rattle.sfx_ids.specs.declared.cut.Cut.{Cut}
 use Rattle.sfx_ids.specs.declared.cut.Cut.TheVariants.{At}
 use Rattle.sfx_ids.specs.Cut.{cut_le}
@@ -103,3 +103,13 @@ next_passed {U} view limit known from items i x found is inside so_far next =
     let first = ap (λ (xs : List (Item U)). unseen U known from (items_view xs)) (opened items i x is inside)
     ∙ unseen_passed U known from (item_view x) (items_view (drop (i + 1) items)) next in
     rw first at so_far
+
+-- Where no item is left, they are all.
+pub gathered_end :
+    {U : ℕ} {A : Type 0} (view : MemberItem → A) (limit : ℕ) (known : Known) (from : Cut) (items : List (Item U)) (i : ℕ) (found : List A)
+    → length items ≤ i
+    → Gathers view limit (unseen U known from (items_view items)) found (unseen U known from (items_view (drop i items)))
+    → found ≡ map view (take limit (unseen U known from (items_view items)))
+gathered_end {U} view limit known from items i found past so_far =
+    gathered_all view limit (unseen U known from (items_view items)) found
+    (subst (λ (xs : List (Item U)). Gathers view limit (unseen U known from (items_view items)) found (unseen U known from (items_view xs))) (drop_all i items past) so_far)

@@ -3,3 +3,5 @@ pub mod Gathering
 pub mod Comparing
 pub mod Refusing
 pub mod Consistency
+pub mod Writing
+pub mod Scanning

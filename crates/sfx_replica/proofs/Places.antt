@@ -2,6 +2,7 @@
 -- it or with one more.
 use Rattle.std.proofs.Common.{◌≡◌, ℕ, suc, ◌+◌, ◌<◌, ◌≤◌, Bool, true, false, Option, Some, None, List, [], ◌∷◌, length, drop, get_or, set, slice_set, if◌then◌else◌, inl, inr, refl, sym, ap, ◌∙◌, arith, cond}
 use Rattle.std.proofs.lemmas.Bool.{cases_lt}
+use Rattle.std.proofs.lemmas.List.{set-get_or}
 use Rattle.std.specs.List.{insert, position_from, remove}
 use Rattle.sfx_ids.specs.declared.item_id.ItemId.{ItemId}
 use Rattle.sfx_ids.specs.declared.version.Version.{Version}
@@ -10,7 +11,7 @@ use Rattle.sfx_item.specs.declared.item.Item.{Item}
 use Rattle.sfx_item.specs.declared.state.State.{State}
 use Rattle.sfx_item.specs.declared.state.State.TheVariants.{Live as LiveRow, Dead as Tombstone}
 use Rattle.sfx_model.specs.Events.{same_item}
-use Rattle.sfx_model.specs.Members.{ItemState, Live, MemberItem, state_of}
+use Rattle.sfx_model.specs.Members.{ItemState, Live, Dead, MemberItem, state_of}
 use Rattle.sfx_model.specs.Items.{item_view, items_view, state_view}
 use Rattle.sfx_model.specs.Putting.{drop_all, drop_item, put_for, put_item}
 use Rattle.sfx_replica.specs.Items.{place_for}
@@ -117,15 +118,6 @@ pub id_there : {U : ℕ} (xs : List (Item U)) (i : ItemId) (k : ℕ) (old : Item
     → IsPlace xs i k → old ≡ get_or xs k old → old.id ≡ i
 id_there xs i k old place is = ap (λ (x : Item _). x.id) is ∙ place.id old
 
--- an item that stands there and is no tombstone is live
-pub live_there : {U : ℕ} (xs : List (Item U)) (i : ItemId) (k : ℕ) (old : Item U)
-    → IsPlace xs i k → old ≡ get_or xs k old → ((v : Version) → old.state ≡ Tombstone v → ⊥)
-    → (cells : List Cell) × (state_of (items_view xs) i ≡ Some (Live cells))
-live_there {U} xs i k old place is alive = by_state old.state refl where
-  by_state : (s : State U) → old.state ≡ s → (cells : List Cell) × (state_of (items_view xs) i ≡ Some (Live cells))
-  by_state (LiveRow cells) e = (cells, state_there xs i k old place is ∙ ap (λ (s : State U). Some (state_view s)) e)
-  by_state (Tombstone v) e = absurd (alive v e)
-
 -- an item put back with other cells has another state in its place
 pub edited_view : {U : ℕ} (xs : List (Item U)) (i : ItemId) (k : ℕ) (old y : Item U) (cells : List Cell)
     → IsPlace xs i k → old ≡ get_or xs k old → y.id ≡ old.id → state_view y.state ≡ Live cells
@@ -133,6 +125,39 @@ pub edited_view : {U : ℕ} (xs : List (Item U)) (i : ItemId) (k : ℕ) (old y :
 edited_view {U} xs i k old y cells place is same live =
     let put = place.put old y (same ∙ ap (λ (x : Item U). x.id) is) in
     rw live at put
+
+-- a cell put in the place of one of the unit's, and nothing put
+pub written_view : {U : ℕ} (xs : List (Item U)) (i : ItemId) (k unit : ℕ) (old : Item U) (row after cells : List Cell) (cell : Cell) (done : Bool)
+    → position_from (has_id i) 0 xs ≡ Some k → old ≡ get_or xs k old → old.state ≡ LiveRow row
+    → state_of (items_view xs) i ≡ Some (Live cells)
+    → after ≡ (if done then slice_set row unit cell else row) → done ≡ true
+    → items_view (set xs k (record { id = old.id; state = LiveRow after })) ≡ with_state i (Live (slice_set cells unit cell)) (items_view xs)
+written_view {U} xs i k unit old row after cells cell done found is state live put made =
+    let place = at_place xs xs i k (Some k) refl (sym found) refl in
+    let both : Some (Live row) ≡ Some (Live cells) =
+    ap (λ (s : State U). Some (state_view s)) (sym state) ∙ (sym (state_there xs i k old place is) ∙ live) in
+    let rows : row ≡ cells = cc in
+    let new : after ≡ slice_set cells unit cell = rw (made, rows) at put in
+    edited_view xs i k old (record { id = old.id; state = LiveRow after }) (slice_set cells unit cell) place is refl
+    (ap (λ (c : List Cell). Live c) new)
+
+pub unwritten : {U : ℕ} (xs : List (Item U)) (k : ℕ) (old : Item U) (row after : List Cell)
+    → old ≡ get_or xs k old → old.state ≡ LiveRow row → after ≡ row
+    → set xs k (record { id = old.id; state = LiveRow after }) ≡ xs
+unwritten {U} xs k old row after is state same =
+    let back : LiveRow after ≡ old.state = ap (λ (c : List Cell). LiveRow c) same ∙ sym state in
+    ap (λ (s : State U). set xs k (record { id = old.id; state = s })) back
+    ∙ (ap (λ (x : Item U). set xs k x) is ∙ set-get_or xs k old)
+
+-- no tombstone is live
+pub none_dead : {U : ℕ} {P : Type 0} (xs : List (Item U)) (i : ItemId) (k : ℕ) (old : Item U) (v : Version) (cells : List Cell)
+    → position_from (has_id i) 0 xs ≡ Some k → old ≡ get_or xs k old → old.state ≡ Tombstone v
+    → state_of (items_view xs) i ≡ Some (Live cells) → P
+none_dead {U} xs i k old v cells found is state live =
+    let place = at_place xs xs i k (Some k) refl (sym found) refl in
+    let both : Some (Dead v) ≡ Some (Live cells) =
+    ap (λ (s : State U). Some (state_view s)) (sym state) ∙ (sym (state_there xs i k old place is) ∙ live) in
+    absurd (cc)
 
 -- an item that stands there, or is not there, and one that is put
 pub put_there : {U : ℕ} (xs : List (Item U)) (item old : Item U) (k : ℕ)
@@ -169,12 +194,6 @@ past_from k u never = elim (cases_lt k u) [
   | inl less ↦ let bad = never less in absurd (cc)
   | inr past ↦ past
 ]
-
--- the cells after a put that was done
-pub put_cells : (cells after : List Cell) (unit k : ℕ) (cell new : Cell) (done : Bool)
-    → after ≡ (if done then slice_set cells unit cell else cells) → done ≡ true → unit ≡ k → cell ≡ new
-    → after ≡ slice_set cells k new
-put_cells cells after unit k cell new done put is same made = rw (is, same, made) at put
 
 -- a list of length 0 is empty
 pub no_items : {A : Type 0} (xs : List A) → length xs ≡ 0 → xs ≡ []

@@ -4,21 +4,21 @@ use Rattle.std.proofs.lemmas.Bool.{lt-ltb, le-ltb}
 use Rattle.sfx_ids.specs.declared.item_id.ItemId.{ItemId}
 use Rattle.sfx_ids.specs.declared.version.Version.{Version}
 use Rattle.sfx_item.specs.declared.cell.Cell.{Cell}
-use Rattle.sfx_model.specs.Members.{Live, Dead, Member, state_of}
+use Rattle.sfx_model.specs.Members.{Live, Dead, Member, MemberItem, state_of}
 use Rattle.sfx_replica.specs.declared.edit_fault.EditFault.TheVariants.{NoItem, Deleted, BadUnit}
-use Rattle.sfx_replica.specs.Refusals.{full_clock, name_refusal, or_next, set_refusal}
+use Rattle.sfx_replica.specs.Refusals.{full_clock, name_refusal, or_next, state_refusal}
 
-module _ (units : ℕ) (m : Member) (i : ItemId) (unit : ℕ) (value : List ℕ) where
-  pub refused_absent : state_of m.items i ≡ None → set_refusal units m i unit value ≡ Some NoItem
+module _ (units : ℕ) (m : Member) (items : List MemberItem) (i : ItemId) (unit : ℕ) (value : List ℕ) where
+  pub refused_absent : state_of items i ≡ None → state_refusal units m i unit value (state_of items i) ≡ Some NoItem
   refused_absent none = rw none refl
 
-  pub refused_dead : (version : Version) → state_of m.items i ≡ Some (Dead version) → set_refusal units m i unit value ≡ Some Deleted
+  pub refused_dead : (version : Version) → state_of items i ≡ Some (Dead version) → state_refusal units m i unit value (state_of items i) ≡ Some Deleted
   refused_dead version dead = rw dead refl
 
-  pub refused_unit : (cells : List Cell) → state_of m.items i ≡ Some (Live cells) → units ≤ unit → set_refusal units m i unit value ≡ Some (BadUnit unit units)
+  pub refused_unit : (cells : List Cell) → state_of items i ≡ Some (Live cells) → units ≤ unit → state_refusal units m i unit value (state_of items i) ≡ Some (BadUnit unit units)
   refused_unit cells live past = rw (live, le-ltb unit units past) refl
 
   pub refused_write :
-      (cells : List Cell) → state_of m.items i ≡ Some (Live cells) → unit < units
-      → set_refusal units m i unit value ≡ or_next (if nat_eq unit 0 then name_refusal m (Some i) value else None) (full_clock m)
+      (cells : List Cell) → state_of items i ≡ Some (Live cells) → unit < units
+      → state_refusal units m i unit value (state_of items i) ≡ or_next (if nat_eq unit 0 then name_refusal m (Some i) value else None) (full_clock m)
   refused_write cells live small = rw (live, lt-ltb unit units small) refl

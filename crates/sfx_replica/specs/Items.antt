@@ -1,11 +1,16 @@
 -- The list of a replica's items.
-use Rattle.std.specs.Prelude.{ℕ, zero, suc, Bool, ◌&&◌, if◌then◌else◌, List, [], ◌∷◌}
+use Rattle.std.specs.Prelude.{◌≡◌, ℕ, zero, suc, ◌<◌, Bool, ◌&&◌, if◌then◌else◌, Some, List, [], ◌∷◌}
+use Rattle.std.specs.List.{position_from}
 use Rattle.sfx_ids.specs.declared.cut.Cut.{Cut}
 use Rattle.sfx_ids.specs.declared.cut.Cut.TheVariants.{At}
 use Rattle.sfx_ids.specs.Cut.{cut_le}
 use Rattle.sfx_ids.specs.declared.item_id.ItemId.{ItemId}
+use Rattle.sfx_item.specs.declared.cell.Cell.{Cell}
+use Rattle.sfx_item.specs.declared.item.Item.{Item}
 use Rattle.sfx_knowledge.specs.Knowledge.{Known}
-use Rattle.sfx_model.specs.Members.{MemberItem}
+use Rattle.sfx_model.specs.Events.{same_item}
+use Rattle.sfx_model.specs.Items.{items_view}
+use Rattle.sfx_model.specs.Members.{Live, MemberItem, state_of}
 use Rattle.sfx_model.specs.Readings.{is_unseen}
 use Rattle.sfx_model.specs.States.{is_id_below}
 
@@ -17,3 +22,10 @@ place_for i (x ∷ xs) = if is_id_below x.id i then suc (place_for i xs) else ze
 -- The item's place is not before this one, and it has a unit whose version the knowledge does not contain.
 abbrev pub is_next_unseen : ℕ → Known → Cut → MemberItem → Bool
 is_next_unseen units known from x = cut_le from (At x.id) && is_unseen units known x
+
+-- The item with this id is a live one at this place, and `unit` is its unit with this number.
+pub record IsTarget {U : ℕ} (items : List (Item U)) (i : ItemId) (k place unit : ℕ) : Type 0 where
+  pub found : position_from (λ x. same_item x.id i) 0 items ≡ Some place
+  pub live : (cells : List Cell) × (state_of (items_view items) i ≡ Some (Live cells))
+  pub same : unit ≡ k
+  pub inside : k < U

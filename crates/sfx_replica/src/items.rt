@@ -1,15 +1,21 @@
 //! The list of a replica's items, which are in order of their ids.
-ghost use Rattle.std.specs.Prelude.{◌≡◌, ◌+◌, ◌<◌, ◌≤◌, IfOk, OnOk, OnErr, option_map, vec_capacity, vec_len};
+ghost use Rattle.std.specs.Prelude.{◌≡◌, ℕ, ◌+◌, ◌<◌, ◌≤◌, List, Some, IfOk, IfErr, OnOk, OnErr, option_map, slice_set, vec_capacity, vec_len};
 ghost use Rattle.std.specs.List.{position_from};
+ghost use Rattle.sfx_ids.specs.declared.item_id.ItemId.{ItemId};
+ghost use Rattle.sfx_item.specs.Name.{IsName};
+ghost use Rattle.sfx_item.specs.declared.cell.Cell.{Cell};
 ghost use Rattle.sfx_model.specs.Events.{same_item};
 ghost use Rattle.sfx_model.specs.Items.{item_view, items_view};
-ghost use Rattle.sfx_model.specs.States.{cells_at, with_item};
+ghost use Rattle.sfx_model.specs.Members.{Live, Member, state_of};
+ghost use Rattle.sfx_model.specs.States.{cells_at, with_item, with_state};
 ghost use Rattle.sfx_model.specs.Readings.{first_from};
 ghost use Rattle.sfx_model.specs.Putting.{drop_all, drop_item, put_all, put_item};
-ghost use Rattle.sfx_replica.specs.Items.{place_for};
+ghost use Rattle.sfx_replica.specs.Items.{IsTarget, place_for};
+ghost use Rattle.sfx_replica.specs.Refusals.{state_refusal};
 
-use sfx_ids::{Cut, ItemId, Memory, Version};
-use sfx_item::{Cell, Item, Value};
+use crate::EditFault;
+use sfx_ids::{Cut, ItemId, Memory, UnitId, Version};
+use sfx_item::{Cell, Item, State, Value};
 use sfx_provider::copies;
 use std::alloc::{AllocError, Global};
 
@@ -60,6 +66,49 @@ pub fn insert<const U: usize>(items: &mut Vec<Item<U>>, item: Item<U>) -> Result
     let place = place_for(items.as_slice(), &item.id);
     items.insert(place, item)?;
     Ok(())
+}
+
+/// Where the item stands whose unit `k` can be written to, and that unit. What refuses this refuses any
+/// value.
+pub fn target<const U: usize>(
+    items: &[Item<U>],
+    id: &ItemId,
+    k: usize,
+) -> Result<(usize, UnitId<U>), EditFault>
+    ensures ok { IfOk result (λ found. IsTarget items.now id.now k found.0 found.1) }
+    ensures err { IfErr result (λ fault. (m : Member) (value : List ℕ) → state_refusal U m id.now k value (state_of (items_view items.now) id.now) ≡ Some fault) }
+{
+    let Some(place) = place_of(items, id) else {
+        return Err(EditFault::NoItem);
+    };
+    if let State::Dead(_) = &items[place].state {
+        return Err(EditFault::Deleted);
+    }
+    match UnitId::new(k) {
+        Some(unit) => Ok((place, unit)),
+        None => Err(EditFault::BadUnit { k, u: U }),
+    }
+}
+
+/// Puts the cell in the place of that of the unit, where a live item stands.
+pub fn write<const U: usize>(
+    items: &mut Vec<Item<U>>,
+    place: usize,
+    unit: UnitId<U>,
+    cell: Cell,
+) -> Result<(), Memory>
+    requires there { place < vec_len items.old }
+    ensures ok { OnOk result ((i : ItemId) (cells : List Cell) → position_from (λ x. same_item x.id i) 0 items.old.items ≡ Some place → state_of (items_view items.old.items) i ≡ Some (Live cells) → (unit.entry ≡ 0 → IsName cell.value) → items_view items.new.items ≡ with_state i (Live (slice_set cells unit.entry cell)) (items_view items.old.items)) }
+    ensures err { OnErr result (items.new.items ≡ items.old.items) }
+{
+    let alloc = *items.allocator();
+    match &mut items[place].state {
+        State::Live(row) => {
+            row.put(alloc, unit, cell)?;
+            Ok(())
+        }
+        State::Dead(_) => Ok(()),
+    }
 }
 
 /// Puts a copy of each of these items in the place of the one with its id, or in its place by id where there

@@ -3,7 +3,7 @@ ghost use Rattle.std.specs.Prelude.{◌≡◌, ◌≤◌, ◌↔◌, if◌then�
 
 use crate::EditFault;
 use crate::clashes::{clashing, first_clash};
-use crate::items::{cells_at, drop_all, first_from, insert, place_of, put_copies};
+use crate::items::{cells_at, drop_all, first_from, insert, place_of, put_copies, target, write};
 use crate::live::same_live;
 use crate::unseen::unseen;
 use sfx_ids::{Cut, ItemId, MAX_TICK, Memory, ReplicaId, Tick, UnitId, Version};
@@ -253,22 +253,10 @@ impl<const U: usize> Replica<U> {
         ensures err { OnErr result (self.new ≡ self.old) }
         ensures acts { OnOk result ((w : World) → WellFormed w → w.units ≡ U → RepresentsReplica w self.old.id (shown self.old) → ActsIn w (Make self.old.id id.now (next_version self.old) (edited_contents k value)) self.old.id self.new) }
     {
-        let Some(place) = place_of(self.items.as_slice(), id) else {
-            return Err(EditFault::NoItem);
-        };
-        if let State::Dead(_) = &self.items[place].state {
-            return Err(EditFault::Deleted);
-        }
-        let Some(unit) = UnitId::new(k) else {
-            return Err(EditFault::BadUnit { k, u: U });
-        };
+        let (place, unit) = target(self.items.as_slice(), id, k)?;
         let cell = self.next_cell(id, k, value)?;
         let version = cell.version;
-        let alloc = *self.items.allocator();
-        let State::Live(row) = &mut self.items[place].state else {
-            return Err(EditFault::Deleted);
-        };
-        row.put(alloc, unit, cell)?;
+        write(&mut self.items, place, unit, cell)?;
         self.clock += 1;
         Ok(version)
     }

@@ -1,4 +1,4 @@
-use Rattle.std.proofs.Common.{◌≡◌, ◌∙◌, ap, length, arith}
+use Rattle.std.proofs.Common.{◌∙◌, ap, length, arith}
 use Rattle.sfx_replica.proofs.Places.{at_place, not_there, put_new, put_there}
 use Rattle.sfx_replica.proofs.items.put.Goals as goal
 

@@ -1,4 +1,4 @@
-use Rattle.std.proofs.Common.{◌≡◌, ◌∙◌, ap, sym, length, arith, refl}
+use Rattle.std.proofs.Common.{◌∙◌, ap, sym, length, arith}
 use Rattle.std.specs.Vec.Iter.{into_iter_items}
 use Rattle.sfx_replica.proofs.Places.{no_items}
 use Rattle.sfx_replica.proofs.items.put_all.Goals as goal

@@ -1,4 +1,4 @@
-use Rattle.std.proofs.Common.{◌≡◌, ◌∙◌, ap, sym, length, arith}
+use Rattle.std.proofs.Common.{ap, sym, length, arith}
 use Rattle.sfx_model.specs.Items.{items_view}
 use Rattle.sfx_replica.proofs.Places.{at_place, drop_absent, not_there}
 use Rattle.sfx_replica.proofs.items.take_away.Goals as goal

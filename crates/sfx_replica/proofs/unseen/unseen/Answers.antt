@@ -1,7 +1,9 @@
-use Rattle.std.proofs.Common.{◌≡◌, ◌∙◌, ◌<◌, sym, true, length, arith}
-use Rattle.sfx_model.specs.Items.{item_view}
+use Rattle.std.proofs.Common.{◌≡◌, ◌∙◌, ◌<◌, ◌≤◌, sym, true, false, drop, length, arith}
+use Rattle.std.proofs.lemmas.Result.{err_from_is_err_and}
+use Rattle.sfx_model.specs.Items.{item_view, items_view}
+use Rattle.sfx_model.specs.Readings.{unseen}
 use Rattle.sfx_replica.specs.Items.{is_next_unseen}
-use Rattle.sfx_replica.proofs.Gathering.{next_found}
+use Rattle.sfx_replica.proofs.Gathering.{gathered_end, gathered_full, gathers_none, next_found, next_passed}
 use Rattle.sfx_replica.proofs.unseen.unseen.Goals as goal
 
 pub loop-item-preserved : goal.loop-item-preserved
@@ -13,3 +15,31 @@ loop-item-preserved g c =
     rw c.in_ok-push.ensures.items
     (next_found (λ x. x.id) c.args.limit c.args.to.now c.args.from.now c.args.items.now c.loop-item.item-index c.item-item.result c.loop-item.ids.items
     c.item-item.is c.loop-item-test.true c.loop-item.invariant next room)
+
+pub loop-item-init : goal.loop-item-init
+loop-item-init g c =
+    rw c.new-ids.ensures.items (gathers_none (λ x. x.id) c.args.limit (unseen g.row.U c.args.to.now c.args.from.now (items_view c.args.items.now)))
+
+pub loop-item-preserved-then-not-is_next_unseen : goal.loop-item-preserved-then-not-is_next_unseen
+loop-item-preserved-then-not-is_next_unseen g c =
+    let next : is_next_unseen g.row.U c.args.to.now c.args.from.now (item_view c.item-item.result) ≡ false = sym c.is_next_unseen.ensures ∙ c.if-not-is_next_unseen.true in
+    next_passed (λ x. x.id) c.args.limit c.args.to.now c.args.from.now c.args.items.now c.loop-item.item-index c.item-item.result c.loop-item.ids.items
+    c.item-item.is c.loop-item-test.true c.loop-item.invariant next
+
+pub returns-then-len-limit : goal.returns-then-len-limit
+returns-then-len-limit g c =
+    let len = c.len.ensures in
+    let more = c.if-len-limit.true in
+    let full : c.args.limit ≤ length c.loop-item.ids.items = omega (arith, len, more) in
+    gathered_full (λ x. x.id) c.args.limit (unseen g.row.U c.args.to.now c.args.from.now (items_view c.args.items.now)) c.loop-item.ids.items
+    (unseen g.row.U c.args.to.now c.args.from.now (items_view (drop c.loop-item.item-index c.args.items.now))) c.loop-item.invariant full
+
+pub returns-in_err-push : goal.returns-in_err-push
+returns-in_err-push g c =
+    let (fault, is, same) = err_from_is_err_and c.from_residual.result c.from_residual.ensures.1 in
+    rw is tt
+
+pub returns : goal.returns
+returns g c =
+    gathered_end (λ x. x.id) c.args.limit c.args.to.now c.args.from.now c.args.items.now c.loop-item.item-index c.loop-item.ids.items
+    c.loop-item-test.false c.loop-item.invariant

@@ -1,4 +1,4 @@
-use Rattle.std.proofs.Common.{drop, map}
+use Rattle.std.proofs.Common.{drop}
 use Rattle.sfx_model.specs.Items.{items_view}
 use Rattle.sfx_model.specs.Readings.{unseen}
 use Rattle.sfx_replica.proofs.Gathering.{Gathers}
