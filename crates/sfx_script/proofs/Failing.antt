@@ -1,6 +1,7 @@
 -- A fault that tells why a first step cannot be read tells it of the whole reading.
-use Rattle.std.proofs.Common.{◌≡◌, ℕ, Some, List, [], ◌∷◌, Result, Ok, Err, sym, subst}
-use Rattle.sfx_script.specs.Reading.{Read, Answers, Fails, Gives, Tells, WordsLeft, ◌>>=◌, first_of, item_if_any, next}
+use Rattle.std.proofs.Common.{◌≡◌, ℕ, Some, None, List, [], ◌∷◌, Result, Ok, Err, refl, sym, subst}
+use Rattle.sfx_script.specs.Reading.{Read, Answers, Fails, Gives, Tells, WordsLeft, ◌>>=◌, first_of, item_if_any, last, next}
+use Rattle.sfx_ids.specs.declared.item_id.ItemId.{ItemId}
 use Rattle.sfx_script.specs.Faults.{Placed}
 use Rattle.sfx_script.specs.Grammar.{item}
 use Rattle.sfx_script.specs.Word.{item_of}
@@ -29,3 +30,21 @@ pub item_off : (left : List Placed) (end : ℕ) (fault other : LineFault) (w : P
 item_off [] end fault other w is same fails = absurd (cc)
 item_off (x ∷ xs) end fault other w is same fails =
     bind_fails fault (next item item_of (record { left = x ∷ xs; end = end })) _ (subst (λ f. Fails f (next item item_of (record { left = x ∷ xs; end = end }))) same fails)
+
+-- no word is left, so that no item is read
+pub item_none : (left : List Placed) (end : ℕ) → None ≡ first_of left → item_if_any (record { left = left; end = end }) ≡ Ok None
+item_none [] end none = refl
+item_none (x ∷ xs) end none = absurd (cc)
+
+-- a word is left: the item that it is, and what is behind it
+pub item_there : (left : List Placed) (end : ℕ) (w : Placed) (i : ItemId) (rest : WordsLeft)
+    → Some w ≡ first_of left → next item item_of (record { left = left; end = end }) ≡ Ok (i, rest) → last rest ≡ Ok tt
+    → item_if_any (record { left = left; end = end }) ≡ Ok (Some i)
+item_there [] end w i rest is read done = absurd (cc)
+item_there (x ∷ xs) end w i rest is read done = rw (read, done) refl
+
+pub item_behind : (left : List Placed) (end : ℕ) (fault other : LineFault) (w : Placed) (i : ItemId) (rest : WordsLeft)
+    → Some w ≡ first_of left → next item item_of (record { left = left; end = end }) ≡ Ok (i, rest) → other ≡ fault → Fails other (last rest)
+    → Fails fault (item_if_any (record { left = left; end = end }))
+item_behind [] end fault other w i rest is read same fails = absurd (cc)
+item_behind (x ∷ xs) end fault other w i rest is read same fails = rw read (bind_fails fault (last rest) _ (subst (λ f. Fails f (last rest)) same fails))

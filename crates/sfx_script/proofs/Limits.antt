@@ -1,5 +1,5 @@
 -- What was read is within its limits.
-use Rattle.std.proofs.Common.{codes, ◌≡◌, ◌≤◌, ℕ, Bool, true, false, ◌&&◌, if◌then◌else◌, Option, Some, None, Result, Ok, Err, IfOk, IfSome, List, length, take, drop, nat_le, refl, sym, ap, arith}
+use Rattle.std.proofs.Common.{codes, ◌≡◌, ◌≤◌, ℕ, Bool, true, false, ◌&&◌, if◌then◌else◌, Option, Some, None, Result, Ok, Err, IfOk, IfSome, List, length, take, drop, nat_le, refl, ap, arith}
 use Rattle.std.proofs.lemmas.Bool.Decides.{nat_tests}
 use Rattle.std.specs.Option.{option_and_then, unwrap_or}
 use Rattle.std.specs.Result.{result_ok}

@@ -1,17 +1,15 @@
 -- The function that finds where bytes go wrong first finds just that.
-use Rattle.std.proofs.Common.{◌≡◌, ℕ, ◌+◌, ◌≤◌, ◌↔◌, Option, Some, None, List, Result, Ok, Err, IfErr, refl, sym, ap, ◌∙◌, subst, arith}
-use Rattle.std.specs.List.{prefix_len}
-use Rattle.sfx_ids.specs.FrontLen.{item_front, version_front}
+use Rattle.std.proofs.Common.{◌≡◌, ℕ, ◌↔◌, Some, List, Result, Ok, Err, refl, sym, ap, subst, arith}
 use Rattle.sfx_ids.proofs.FrontLens.{item_measured, version_measured}
-use Rattle.sfx_script.specs.Faults.{Placed, IsPlaceIn, IsMisformed, GoesWrongAt, IsFirstWrong}
+use Rattle.sfx_script.specs.Faults.{IsPlaceIn, IsFirstWrong}
 use Rattle.sfx_script.specs.Grammar.{Form, number, name, uuid, item, version, value, keep, clash, batch, group, cut, trace}
-use Rattle.sfx_script.specs.Reading.{Cause, Unknown, Lacking, Misformed, Surplus, Read, IsPlaceOf, Tells, Fails, Answers, reading_of, line_of}
+use Rattle.sfx_script.specs.Reading.{Cause, Unknown, Lacking, Misformed, Surplus, Read, IsPlaceOf, Fails, Answers, reading_of}
 use Rattle.sfx_script.specs.Wrong.{form_place, place_of, place_in, wrong_at}
 use Rattle.sfx_script.specs.declared.line.Line.{Line}
 use Rattle.sfx_script.specs.declared.line_fault.LineFault.{LineFault}
-use Rattle.sfx_script.specs.declared.line_fault.LineFault.TheVariants.{Syntax, Memory}
+use Rattle.sfx_script.specs.declared.line_fault.LineFault.TheVariants.{Syntax}
 use Rattle.sfx_script.proofs.Leasts.{place_same}
-use Rattle.sfx_script.proofs.Lines.{IsFirstCause, IsToldBy, line_right}
+use Rattle.sfx_script.proofs.Lines.{IsToldBy, line_right}
 
 form_place_is : (f : Form) (word : List ℕ) → IsPlaceIn f word (form_place f word)
 form_place_is number word = refl

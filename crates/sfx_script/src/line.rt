@@ -1,4 +1,5 @@
 ghost use Rattle.std.specs.Prelude.{◌≡◌, IfOk};
+ghost use Rattle.sfx_script.specs.declared.line.Line.TheVariants as lines;
 
 use crate::options::Options;
 use crate::values::Values;
@@ -83,73 +84,103 @@ impl Line {
     pub fn copy(&self, alloc: Global) -> Result<Self, Memory>
         ensures { IfOk result (λ copy. copy ≡ self.now) }
     {
-        Ok(match self {
-            Line::Units { n } => Line::Units { n: *n },
-            Line::Replica { name, id } => Line::Replica {
+        match self {
+            Line::Units { n } => Ok(Line::Units { n: *n }),
+            Line::Replica { name, id } => Ok(Line::Replica {
                 name: name.copy(alloc)?,
                 id: *id,
-            },
-            Line::Files { name, id } => Line::Files {
+            }),
+            Line::Files { name, id } => Ok(Line::Files {
                 name: name.copy(alloc)?,
                 id: *id,
-            },
-            Line::Create { replica, values } => Line::Create {
-                replica: replica.copy(alloc)?,
-                values: values.copy(alloc)?,
-            },
+            }),
+            Line::Create { replica, values } => create_copy(alloc, replica, values),
             Line::Set {
                 replica,
                 item,
                 unit,
                 value,
-            } => Line::Set {
+            } => set_copy(alloc, replica, *item, *unit, value),
+            Line::Delete { replica, item } => Ok(Line::Delete {
                 replica: replica.copy(alloc)?,
                 item: *item,
-                unit: *unit,
-                value: value.copy(alloc)?,
-            },
-            Line::Delete { replica, item } => Line::Delete {
+            }),
+            Line::Clean { replica, item } => Ok(Line::Clean {
                 replica: replica.copy(alloc)?,
                 item: *item,
-            },
-            Line::Clean { replica, item } => Line::Clean {
+            }),
+            Line::Scan { replica } => Ok(Line::Scan {
                 replica: replica.copy(alloc)?,
-                item: *item,
-            },
-            Line::Scan { replica } => Line::Scan {
-                replica: replica.copy(alloc)?,
-            },
+            }),
             Line::Sync {
                 source,
                 destination,
                 keep,
                 clash,
                 options,
-            } => Line::Sync {
-                source: source.copy(alloc)?,
-                destination: destination.copy(alloc)?,
-                keep: *keep,
-                clash: *clash,
-                options: *options,
-            },
-            Line::Show { replica } => Line::Show {
+            } => {
+                let (source, destination) = copies(alloc, source, destination)?;
+                Ok(Line::Sync {
+                    source,
+                    destination,
+                    keep: *keep,
+                    clash: *clash,
+                    options: *options,
+                })
+            }
+            Line::Show { replica } => Ok(Line::Show {
                 replica: replica.copy(alloc)?,
-            },
+            }),
             Line::Knows {
                 replica,
                 item,
                 unit,
                 version,
-            } => Line::Knows {
+            } => Ok(Line::Knows {
                 replica: replica.copy(alloc)?,
                 item: *item,
                 unit: *unit,
                 version: *version,
-            },
-            Line::Equal { first, second } => Line::Equal {
-                first: first.copy(alloc)?,
-                second: second.copy(alloc)?,
-            },
-        })
+            }),
+            Line::Equal { first, second } => {
+                let (first, second) = copies(alloc, first, second)?;
+                Ok(Line::Equal { first, second })
+            }
+        }
     }
+}
+
+/// A line that creates an item, of its own memory.
+fn create_copy(alloc: Global, replica: &Text, values: &Values) -> Result<Line, Memory>
+    ensures { IfOk result (λ copy. copy ≡ lines.Create replica.now values.now) }
+{
+    Ok(Line::Create {
+        replica: replica.copy(alloc)?,
+        values: values.copy(alloc)?,
+    })
+}
+
+/// A line that writes a value, of its own memory.
+fn set_copy(
+    alloc: Global,
+    replica: &Text,
+    item: ItemId,
+    unit: u64,
+    value: &Value,
+) -> Result<Line, Memory>
+    ensures { IfOk result (λ copy. copy ≡ lines.Set replica.now item unit value.now) }
+{
+    Ok(Line::Set {
+        replica: replica.copy(alloc)?,
+        item,
+        unit,
+        value: value.copy(alloc)?,
+    })
+}
+
+/// Two equal names of their own memory.
+fn copies(alloc: Global, first: &Text, second: &Text) -> Result<(Text, Text), Memory>
+    ensures { IfOk result (λ copies. copies ≡ (first.now, second.now)) }
+{
+    Ok((first.copy(alloc)?, second.copy(alloc)?))
 }

@@ -6,7 +6,7 @@ use std::error::Error;
 use std::fmt;
 
 /// Why bytes were not read as a line.
-#[derive(Clone, Copy, Debug, PartialEq, Eq, Hash)]
+#[derive(Clone, Copy, Debug, PartialEq, Eq)]
 pub enum LineFault {
     /// They are no line: the least index at which they go wrong.
     Syntax(usize),

@@ -17,3 +17,8 @@ pub returns-in_err-version : goal.returns-in_err-version
 returns-in_err-version c =
     let exit = err_from_is_err_and c.from_residual-in_err-version.result c.from_residual-in_err-version.ensures.1 in
     rw (c.in_ok-replica.ensures, c.in_ok-item.ensures, c.in_ok-unit.ensures) (answers_fault c.from_residual-in_err-version.result exit.0 c.in_err-version.field-0.0 _ _ exit.1 (sym exit.2) c.in_err-version.ensures)
+
+pub returns-in_err-replica : goal.returns-in_err-replica
+returns-in_err-replica c =
+    let exit = err_from_is_err_and c.from_residual.result c.from_residual.ensures.1 in
+    answers_fault c.from_residual.result exit.0 c.in_err-replica.field-0.0 _ _ exit.1 (sym exit.2) c.in_err-replica.ensures
