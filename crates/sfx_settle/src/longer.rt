@@ -7,7 +7,7 @@ use sfx_item::Value;
 use std::alloc::Global;
 
 /// Merges to the longer value and, of equal lengths, to the greater one by its bytes.
-#[derive(Clone, Copy, Debug, PartialEq, Eq, Hash)]
+#[derive(Clone, Copy, Debug, PartialEq, Eq)]
 pub struct Longer;
 
 impl Merger for Longer {

@@ -4,7 +4,7 @@ ghost use Rattle.sfx_ids.specs.Tick.{max_tick};
 use sfx_ids::MAX_TICK;
 
 /// The clock has this tick, and fewer are left than are needed.
-#[derive(Clone, Copy, Debug, PartialEq, Eq, Hash)]
+#[derive(Clone, Copy, Debug, PartialEq, Eq)]
 pub struct ClockFull(pub u64);
 
 /// The clock after so many more ticks.
