@@ -39,7 +39,7 @@ use Rattle.sfx_provider.specs.Fits.{Fits}
 use Rattle.sfx_provider.proofs.Commits.{IsStored, commits_consistent}
 use Rattle.sfx_replica.specs.Edits.{new_member, risen, created}
 use Rattle.sfx_replica.specs.declared.edit_fault.EditFault.{EditFault}
-use Rattle.sfx_replica.specs.declared.edit_fault.EditFault.TheVariants.{BadUnit, ClockFull}
+use Rattle.sfx_replica.specs.declared.edit_fault.EditFault.TheVariants.{BadUnit, ClockFull, Memory}
 use Rattle.sfx_replica.specs.Refusals.{or_next, bad_name, clash, full_clock, name_refusal, first_name_refusal, create_refusal, write_refusal}
 
 -- Where neither refuses, each of them does not.
@@ -527,3 +527,18 @@ installed_consistent units c m known forgotten items good fits form ticks own fo
       ticks = subst (λ (k : Known). HasTicks units k (laid_over m.id 0 (tick_at c.knowledge))) own ticks;
     } in
     rw (own, forgets, holds) (commits_consistent units c m good stored fits)
+
+-- What refuses the first value, or where nothing does the next version, refuses a creation.
+pub refused_first :
+    (m : Member) (values : List (List ℕ)) (name : List ℕ) (fault : EditFault)
+    → slice_get values 0 ≡ Some name → (fault ≡ Memory) ⊎ (name_refusal m None name ≡ Some fault)
+    → (fault ≡ Memory) ⊎ (create_refusal m values ≡ Some fault)
+refused_first m values name fault first (inl memory) = inl memory
+refused_first m values name fault first (inr refused) = inr (rw (first, refused) refl)
+
+pub refused_next :
+    (m : Member) (values : List (List ℕ)) (name : List ℕ) (fault : EditFault)
+    → slice_get values 0 ≡ Some name → name_refusal m None name ≡ None → (fault ≡ Memory) ⊎ (full_clock m ≡ Some fault)
+    → (fault ≡ Memory) ⊎ (create_refusal m values ≡ Some fault)
+refused_next m values name fault first free (inl memory) = inl memory
+refused_next m values name fault first free (inr refused) = inr (rw (first, free, refused) refl)

@@ -5,3 +5,4 @@ pub mod Refusing
 pub mod Consistency
 pub mod Writing
 pub mod Scanning
+pub mod Calling
