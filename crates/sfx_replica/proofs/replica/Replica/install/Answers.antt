@@ -1,8 +1,10 @@
-use Rattle.std.proofs.Common.{◌≡◌, sym, subst, refl}
+use Rattle.std.proofs.Common.{◌≡◌, ◌∙◌, List, ap, sym, subst, refl}
+use Rattle.std.proofs.lemmas.Result.{err_from_is_err_and}
+use Rattle.sfx_item.specs.declared.item.Item.{Item}
 use Rattle.sfx_model.specs.Items.{items_view}
 use Rattle.sfx_model.specs.Members.{Member}
 use Rattle.sfx_model.specs.Putting.{drop_all, put_all}
-use Rattle.sfx_provider.specs.Commit.{CommitData}
+use Rattle.sfx_provider.specs.Commit.{CommitData, committed}
 use Rattle.sfx_provider.specs.Fits.{Fits}
 use Rattle.sfx_replica.specs.Replica.{member_view}
 use Rattle.sfx_replica.proofs.Consistency.{installed_consistent}
@@ -20,3 +22,54 @@ invariant_of-self-2 g c =
     installed_consistent g.row.U commit m c.in_ok-knowledge.knowledge c.in_ok-forgotten.forgotten (items_view c.drop_all.new.items.items)
     c.self.invariant (subst (λ (x : CommitData). Fits g.row.U x m) (sym c.commit.view_is) fits)
     c.in_ok-knowledge.ensures.form c.in_ok-knowledge.ensures.ticks c.in_ok-knowledge.ensures.list c.in_ok-forgotten.ensures items
+
+pub returns-in_err-knowledge-clause-ok : goal.returns-in_err-knowledge-clause-ok
+returns-in_err-knowledge-clause-ok g c =
+    let (fault, is, same) = err_from_is_err_and c.from_residual.result c.from_residual.ensures.1 in
+    rw is tt
+
+pub returns-in_err-knowledge-clause-err : goal.returns-in_err-knowledge-clause-err
+returns-in_err-knowledge-clause-err g c =
+    let (fault, is, same) = err_from_is_err_and c.from_residual.result c.from_residual.ensures.1 in
+    rw is refl
+
+pub returns-in_err-forgotten-clause-ok : goal.returns-in_err-forgotten-clause-ok
+returns-in_err-forgotten-clause-ok g c =
+    let (fault, is, same) = err_from_is_err_and c.from_residual-in_err-forgotten.result c.from_residual-in_err-forgotten.ensures.1 in
+    rw is tt
+
+pub returns-in_err-forgotten-clause-err : goal.returns-in_err-forgotten-clause-err
+returns-in_err-forgotten-clause-err g c =
+    let (fault, is, same) = err_from_is_err_and c.from_residual-in_err-forgotten.result c.from_residual-in_err-forgotten.ensures.1 in
+    rw is refl
+
+pub invariant_of-self : goal.invariant_of-self
+invariant_of-self g c = rw c.in_err-put_copies.ensures.err c.self.invariant
+
+pub returns-in_err-put_copies-clause-ok : goal.returns-in_err-put_copies-clause-ok
+returns-in_err-put_copies-clause-ok g c =
+    let (fault, is, same) = err_from_is_err_and c.from_residual-in_err-put_copies.result c.from_residual-in_err-put_copies.ensures.1 in
+    rw is tt
+
+pub returns-in_err-put_copies-clause-err : goal.returns-in_err-put_copies-clause-err
+returns-in_err-put_copies-clause-err g c =
+    let (fault, is, same) = err_from_is_err_and c.from_residual-in_err-put_copies.result c.from_residual-in_err-put_copies.ensures.1 in
+    rw is
+    (ap (λ (xs : List (Item g.row.U)). member_view c.self.inside.id c.self.inside.clock c.self.inside.knowledge c.self.inside.forgotten xs) c.in_err-put_copies.ensures.err
+    ∙ c.self.view_is)
+
+pub returns-clause-ok : goal.returns-clause-ok
+returns-clause-ok g c =
+    let m = member_view c.self.inside.id c.self.inside.clock c.self.inside.knowledge c.self.inside.forgotten c.self.inside.items.items in
+    let put : items_view c.put_copies.new.items.items ≡ put_all (items_view c.commit.inside.puts.items) m.items =
+    rw (c.in_ok-put_copies.ensures.ok, c.as_slice.ensures.value) refl in
+    let items : items_view c.drop_all.new.items.items ≡ drop_all c.commit.inside.drops.items (put_all (items_view c.commit.inside.puts.items) m.items) =
+    rw (c.drop_all.ensures, c.as_slice-2.ensures.value, put) refl in
+    let commit : CommitData = record { clock = c.commit.inside.clock; knowledge = c.commit.inside.knowledge; forgotten = c.commit.inside.forgotten; puts = items_view c.commit.inside.puts.items; drops = c.commit.inside.drops.items } in
+    let after = member_view c.self.inside.id c.commit.inside.clock c.in_ok-knowledge.knowledge c.in_ok-forgotten.forgotten c.drop_all.new.items.items in
+    let now : after ≡ committed g.row.U commit m = rw (c.in_ok-knowledge.ensures.list, c.in_ok-forgotten.ensures, items) refl in
+    subst (λ (x : Member). after ≡ committed g.row.U c.args.commit.now x) c.self.view_is
+    (subst (λ (x : CommitData). after ≡ committed g.row.U x m) c.commit.view_is now)
+
+pub returns-clause-err : goal.returns-clause-err
+returns-clause-err g c = tt
