@@ -1,7 +1,7 @@
 ghost use Rattle.std.specs.Prelude.{◌≡◌};
 
 /// What becomes of an incoming item whose name clashes with names of other items at the destination.
-#[derive(Clone, Copy, Debug, PartialEq, Eq, Hash)]
+#[derive(Clone, Copy, Debug, PartialEq, Eq)]
 pub enum ClashRule {
     /// The incoming item comes, and each item that it clashes with is deleted.
     Source,
