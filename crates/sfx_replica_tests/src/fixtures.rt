@@ -1,34 +1,30 @@
 //! Small replicas, which the tests make, edit and compare.
-ghost use Rattle.std.specs.Prelude.{◌≡◌, length, IfOk};
+ghost use Rattle.std.specs.Prelude.{◌≡◌, length};
 
 use sfx_ids::{ItemId, ReplicaId, Tick, UnitId, Version};
 use sfx_item::{Name, Value};
 use sfx_knowledge::Knowledge;
 use sfx_replica::{EditFault, Replica};
-use std::alloc::{AllocError, Global};
+use std::alloc::Global;
 use std::process::Abort;
 
-pub fn value(alloc: Global, text: &str) -> Result<Value, AllocError> {
-    Ok(Value::new(Vec::from_slice(alloc, text.as_bytes())?))
+pub fn value(rt: &impl Abort, alloc: Global, text: &str) -> Value {
+    Value::new(Vec::from_slice(alloc, text.as_bytes()).expect(rt, "memory"))
 }
 
 /// The values of an item with one unit.
-fn one(alloc: Global, name: &str) -> Result<Vec<Value>, AllocError>
-    ensures { IfOk result (λ values. length values.items ≡ 1) }
+fn one(rt: &impl Abort, alloc: Global, name: &str) -> Vec<Value>
+    ensures { length result.items ≡ 1 }
 {
-    let mut values = Vec::new(alloc);
-    values.push(value(alloc, name)?)?;
-    Ok(values)
+    Vec::from_array(alloc, [value(rt, alloc, name)]).expect(rt, "memory")
 }
 
 /// The values of an item with two units.
-pub fn two(alloc: Global, name: &str, text: &str) -> Result<Vec<Value>, AllocError>
-    ensures { IfOk result (λ values. length values.items ≡ 2) }
+pub fn two(rt: &impl Abort, alloc: Global, name: &str, text: &str) -> Vec<Value>
+    ensures { length result.items ≡ 2 }
 {
-    let mut values = Vec::new(alloc);
-    values.push(value(alloc, name)?)?;
-    values.push(value(alloc, text)?)?;
-    Ok(values)
+    let values = [value(rt, alloc, name), value(rt, alloc, text)];
+    Vec::from_array(alloc, values).expect(rt, "memory")
 }
 
 pub fn name(rt: &impl Abort, alloc: Global, text: &str) -> Name {
@@ -61,7 +57,7 @@ pub fn create(
     replica: &mut Replica<1>,
     name: &str,
 ) -> Result<ItemId, EditFault> {
-    replica.create(one(alloc, name).expect(rt, "values"))
+    replica.create(one(rt, alloc, name))
 }
 
 /// Creates an item of two units in the replica.
@@ -72,7 +68,7 @@ pub fn create_two(
     name: &str,
     text: &str,
 ) -> Result<ItemId, EditFault> {
-    replica.create(two(alloc, name, text).expect(rt, "values"))
+    replica.create(two(rt, alloc, name, text))
 }
 
 /// A replica that created items with these names, of one unit each.
@@ -93,7 +89,7 @@ pub fn set(
     k: usize,
     text: &str,
 ) -> Result<Version, EditFault> {
-    replica.set(id, k, value(alloc, text).expect(rt, "a value"))
+    replica.set(id, k, value(rt, alloc, text))
 }
 
 /// A replica that created `a` and `b/c`, with two units each.
@@ -121,5 +117,8 @@ pub fn are_alike(a: &Replica<2>, b: &Replica<2>) -> bool {
 
 /// Whether the replica has the live items of a pair as it is at first.
 pub fn is_pair(rt: &impl Abort, alloc: Global, replica: &Replica<2>) -> bool {
-    are_alike(replica, &pair(rt, alloc, 10))
+    let pair = pair(rt, alloc, 10);
+    let is_pair = are_alike(replica, &pair);
+    drop(pair);
+    is_pair
 }

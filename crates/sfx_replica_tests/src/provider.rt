@@ -43,6 +43,7 @@ fn burying(alloc: Global, replica: &Replica<2>, id: &ItemId) -> Result<Commit<2>
 fn install_drop(rt: &impl Abort, alloc: Global, replica: &mut Replica<2>, id: &ItemId) {
     let commit = dropping(alloc, replica, id).expect(rt, "a commit");
     replica.install(&commit).expect(rt, "memory");
+    drop(commit);
 }
 
 /// A pair is to have its second item alone once a drop of the first is installed.
@@ -57,19 +58,28 @@ fn installs_drops(rt: HostRuntime) {
     let alloc = rt.alloc();
     let mut replica = pair(&rt, alloc, 10);
     expect_dropped(&rt, alloc, &mut replica);
+    drop(replica);
 }
 
 /// Installs a copy of a commit that puts a tombstone in the place of the item.
 fn install_put(rt: &impl Abort, alloc: Global, replica: &mut Replica<2>, id: &ItemId) {
     let commit = burying(alloc, replica, id).expect(rt, "a commit");
     let copy = commit.copy(alloc).expect(rt, "a copy");
+    drop(commit);
     replica.install(&copy).expect(rt, "memory");
+    drop(copy);
 }
 
 /// Whether the replica knows the same as a pair at first.
 fn knows_as_pair(rt: &impl Abort, alloc: Global, replica: &Replica<2>) -> bool {
-    let known = known_to(rt, alloc, &pair(rt, alloc, 10));
-    known_to(rt, alloc, replica).same(&known)
+    let pair = pair(rt, alloc, 10);
+    let wanted = known_to(rt, alloc, &pair);
+    drop(pair);
+    let known = known_to(rt, alloc, replica);
+    let is_same = known.same(&wanted);
+    drop(wanted);
+    drop(known);
+    is_same
 }
 
 /// A pair is to have other live items but the same knowledge once a tombstone of the first is installed.
@@ -85,6 +95,7 @@ fn installs_puts(rt: HostRuntime) {
     let alloc = rt.alloc();
     let mut replica = pair(&rt, alloc, 10);
     expect_buried(&rt, alloc, &mut replica);
+    drop(replica);
 }
 
 /// A provider of a replica that created two items.
@@ -94,14 +105,26 @@ fn provider(rt: &impl Abort, alloc: Global, fails: &[u64]) -> MemoryProvider<2> 
 }
 
 /// How many items the provider lists as unseen to one that knows nothing.
-fn count_unseen(alloc: Global, provider: &mut MemoryProvider<2>) -> Result<u64, ProviderFault> {
-    let nothing = Knowledge::none(alloc)?;
-    Ok(provider.unseen(alloc, &nothing, &Cut::Start, 9)?.len() as u64)
+fn count_unseen(
+    rt: &impl Abort,
+    alloc: Global,
+    provider: &mut MemoryProvider<2>,
+) -> Result<u64, ProviderFault> {
+    let nothing = Knowledge::none(alloc).expect(rt, "knowledge");
+    let unseen = provider.unseen(alloc, &nothing, &Cut::Start, 9);
+    drop(nothing);
+    let items = unseen?;
+    let count = items.len() as u64;
+    drop(items);
+    Ok(count)
 }
 
 /// The clock that the provider tells.
 fn clock_of(alloc: Global, provider: &mut MemoryProvider<2>) -> Result<u64, ProviderFault> {
-    Ok(provider.head(alloc)?.clock)
+    let head = provider.head(alloc)?;
+    let clock = head.clock;
+    drop(head);
+    Ok(clock)
 }
 
 /// How many items but this one clash with the name.
@@ -111,7 +134,10 @@ fn count_clashing(
     id: &ItemId,
     name: &Name,
 ) -> Result<u64, ProviderFault> {
-    Ok(provider.clashing(alloc, name, id)?.len() as u64)
+    let ids = provider.clashing(alloc, name, id)?;
+    let count = ids.len() as u64;
+    drop(ids);
+    Ok(count)
 }
 
 /// 1 where the provider has the item.
@@ -120,16 +146,23 @@ fn count_item(
     provider: &mut MemoryProvider<2>,
     id: &ItemId,
 ) -> Result<u64, ProviderFault> {
-    Ok(provider.item(alloc, id)?.is_some() as u64)
+    let item = provider.item(alloc, id)?;
+    let count = item.is_some() as u64;
+    drop(item);
+    Ok(count)
 }
 
 /// 1 where the provider has an item.
 fn count_first(alloc: Global, provider: &mut MemoryProvider<2>) -> Result<u64, ProviderFault> {
-    Ok(provider.next_from(alloc, &Cut::Start)?.is_some() as u64)
+    let item = provider.next_from(alloc, &Cut::Start)?;
+    let count = item.is_some() as u64;
+    drop(item);
+    Ok(count)
 }
 
 /// Makes one of the calls that read: how many items, or which clock, it tells.
 fn read(
+    rt: &impl Abort,
     alloc: Global,
     provider: &mut MemoryProvider<2>,
     id: &ItemId,
@@ -141,7 +174,7 @@ fn read(
         1 => count_item(alloc, provider, id),
         2 => count_first(alloc, provider),
         3 => count_clashing(alloc, provider, id, name),
-        _ => count_unseen(alloc, provider),
+        _ => count_unseen(rt, alloc, provider),
     }
 }
 
@@ -154,22 +187,35 @@ fn read_thrice(
     call: u64,
 ) -> [Result<u64, ProviderFault>; 3] {
     let mut provider = provider(rt, alloc, &[1, 3]);
-    let first = read(alloc, &mut provider, id, name, call);
-    let second = read(alloc, &mut provider, id, name, call);
-    let third = read(alloc, &mut provider, id, name, call);
+    let first = read(rt, alloc, &mut provider, id, name, call);
+    let second = read(rt, alloc, &mut provider, id, name, call);
+    let third = read(rt, alloc, &mut provider, id, name, call);
+    drop(provider);
     [first, second, third]
 }
+
+/// The calls that read, and what they tell.
+const READ: &[(u64, u64)] = &[(0, 2), (1, 1), (2, 1), (3, 1), (4, 2)];
 
 #[test]
 fn fails_at_listed_calls(rt: HostRuntime) {
     let alloc = rt.alloc();
     let id = item_id(&rt, 1, 10);
     let name = name(&rt, alloc, "b");
-    for (call, told) in [(0, 2), (1, 1), (2, 1), (3, 1), (4, 2)] {
+    for &(call, told) in READ {
         let failed = Err(ProviderFault::Failed);
-        let answers = read_thrice(&rt, alloc, &id, &name, call);
-        assert!(rt; answers == [failed, Ok(told), failed], "{call}");
+        let is_so = read_thrice(&rt, alloc, &id, &name, call) == [failed, Ok(told), failed];
+        assert!(rt; is_so, "{call}");
     }
+    drop(name);
+}
+
+/// How many items the provider has at last.
+fn left(provider: MemoryProvider<2>) -> usize {
+    let replica = provider.into_replica();
+    let count = replica.items().len();
+    drop(replica);
+    count
 }
 
 /// The answer of a provider of the replica to the commit, and how many items it has then.
@@ -185,7 +231,7 @@ fn commit_to(
     let fails = Vec::from_slice(alloc, fails).expect(rt, "calls");
     let mut provider = MemoryProvider::new(replica, fails);
     let answer = provider.commit(commit);
-    (provider.into_replica().items().len(), answer)
+    (left(provider), answer)
 }
 
 /// How many items a provider of a pair has after a commit that drops one, and its answer.
@@ -197,35 +243,55 @@ fn commit_one(
 ) -> (usize, Result<(), ProviderFault>) {
     let replica = pair(rt, alloc, 10);
     let commit = dropping(alloc, &replica, id).expect(rt, "a commit");
-    commit_to(rt, alloc, replica, fails, &commit)
+    let told = commit_to(rt, alloc, replica, fails, &commit);
+    drop(commit);
+    told
 }
+
+/// The answer where a call fails.
+const FAILED: Result<(), ProviderFault> = Err(ProviderFault::Failed);
+
+/// The calls that fail, how many items there are after a commit that drops one, and the answer to it.
+const COMMITTED: &[(&[u64], (usize, Result<(), ProviderFault>))] = &[
+    (&[], (1, Ok(()))),
+    (&[2], (1, Ok(()))),
+    (&[1], (2, FAILED)),
+];
 
 #[test]
 fn commits_unless_listed(rt: HostRuntime) {
-    let alloc = rt.alloc();
     let first = item_id(&rt, 1, 10);
-    assert!(rt; commit_one(&rt, alloc, &first, &[]) == (1, Ok(())));
-    let failed = Err(ProviderFault::Failed);
-    for (call, told) in [(2, (1, Ok(()))), (1, (2, failed))] {
-        assert!(rt; commit_one(&rt, alloc, &first, &[call]) == told, "{call}");
+    for &(fails, told) in COMMITTED {
+        let is_so = commit_one(&rt, rt.alloc(), &first, fails) == told;
+        assert!(rt; is_so, "{fails:?}");
     }
 }
 
 /// How many items a walk over a provider whose listed calls fail gives.
 fn count_items(rt: &impl Abort, alloc: Global, fails: &[u64]) -> Result<usize, ProviderFault> {
-    walk(alloc, &mut provider(rt, alloc, fails))
+    let mut provider = provider(rt, alloc, fails);
+    let walk = all_items(alloc, &mut provider);
+    drop(provider);
+    let items = walk?;
+    let count = items.len();
+    drop(items);
+    Ok(count)
 }
 
-fn walk(alloc: Global, provider: &mut MemoryProvider<2>) -> Result<usize, ProviderFault> {
-    Ok(all_items(alloc, provider)?.len())
-}
+/// The calls that fail, and how many items a walk gives; `None` where it fails.
+const WALKS: &[(&[u64], Option<usize>)] = &[
+    (&[], Some(2)),
+    (&[1], None),
+    (&[2], None),
+    (&[3], None),
+    (&[4], Some(2)),
+];
 
 #[test]
 fn walks_over_items(rt: HostRuntime) {
-    assert!(rt; count_items(&rt, rt.alloc(), &[]) == Ok(2));
-    let failed = Err(ProviderFault::Failed);
-    for (call, told) in [(1, failed), (2, failed), (3, failed), (4, Ok(2))] {
-        assert!(rt; count_items(&rt, rt.alloc(), &[call]) == told, "{call}");
+    for &(fails, told) in WALKS {
+        let is_so = count_items(&rt, rt.alloc(), fails) == told.ok_or(ProviderFault::Failed);
+        assert!(rt; is_so, "{fails:?}");
     }
 }
 
@@ -257,7 +323,7 @@ fn commit_all_to(
     let fails = Vec::from_slice(alloc, fails).expect(rt, "calls");
     let mut provider = MemoryProvider::new(replica, fails);
     let answer = commit_all(&mut provider, commits);
-    (provider.into_replica().items().len(), answer)
+    (left(provider), answer)
 }
 
 /// How many items a provider of a pair has after two commits, and its answer.
@@ -269,16 +335,23 @@ fn commit_two(
 ) -> (usize, Result<(), ProviderFault>) {
     let replica = pair(rt, alloc, 10);
     let commits = two_commits(alloc, &replica, id).expect(rt, "commits");
-    commit_all_to(rt, alloc, replica, fails, commits.as_slice())
+    let told = commit_all_to(rt, alloc, replica, fails, commits.as_slice());
+    drop(commits);
+    told
 }
+
+/// The calls that fail, how many items there are after two commits, and the answer to them.
+const BOTH_COMMITTED: &[(&[u64], (usize, Result<(), ProviderFault>))] = &[
+    (&[], (1, Ok(()))),
+    (&[1], (2, FAILED)),
+    (&[2], (2, FAILED)),
+];
 
 #[test]
 fn commits_in_a_row(rt: HostRuntime) {
-    let alloc = rt.alloc();
     let first = item_id(&rt, 1, 10);
-    assert!(rt; commit_two(&rt, alloc, &first, &[]) == (1, Ok(())));
-    for call in [1, 2] {
-        let told = (2, Err(ProviderFault::Failed));
-        assert!(rt; commit_two(&rt, alloc, &first, &[call]) == told, "{call}");
+    for &(fails, told) in BOTH_COMMITTED {
+        let is_so = commit_two(&rt, rt.alloc(), &first, fails) == told;
+        assert!(rt; is_so, "{fails:?}");
     }
 }

@@ -18,28 +18,32 @@ fn knowing(
     unit: UnitId<2>,
     version: &Version,
 ) -> (bool, bool, bool) {
-    (
-        replica.knows(id, unit, version),
-        known_to(rt, alloc, replica).contains(id, unit, version),
-        replica.stored().contains(id, unit, version),
-    )
+    let known = known_to(rt, alloc, replica);
+    let is_given = known.contains(id, unit, version);
+    drop(known);
+    let is_stored = replica.stored().contains(id, unit, version);
+    (replica.knows(id, unit, version), is_given, is_stored)
 }
 
 /// Whether what a new replica knows is what it stores.
 fn knows_as_stored(rt: &impl Abort, alloc: Global) -> bool {
     let empty = Replica::<2>::new(alloc, ReplicaId::new(10)).expect(rt, "a replica");
-    known_to(rt, alloc, &empty).same(empty.stored())
+    let known = known_to(rt, alloc, &empty);
+    let is_stored = known.same(empty.stored());
+    drop(known);
+    drop(empty);
+    is_stored
 }
 
+/// The replica and tick of a version, and whether a pair knows it.
+const KNOWN: &[(u128, u64, bool)] = &[(10, 1, true), (10, 2, true), (10, 3, false), (11, 1, false)];
+
 /// A pair is to know the versions that it made, at the items that it holds and at any other.
-fn expect_own_known(rt: &impl Abort, alloc: Global, replica: &Replica<2>) {
+fn expect_own_known(rt: &impl Abort, alloc: Global, replica: &Replica<2>, id: &ItemId) {
     let unit = unit::<2>(rt, 1);
-    for (maker, count, is_known) in [(10, 1, true), (10, 2, true), (10, 3, false), (11, 1, false)] {
-        let version = version(rt, maker, count);
-        for id in [item_id(rt, 1, 10), item_id(rt, 2, 10), item_id(rt, 5, 9)] {
-            let told = knowing(rt, alloc, replica, &id, unit, &version);
-            assert!(rt; told == (is_known, is_known, false), "{count}");
-        }
+    for &(maker, count, is_known) in KNOWN {
+        let told = knowing(rt, alloc, replica, id, unit, &version(rt, maker, count));
+        assert!(rt; told == (is_known, is_known, false), "{count}");
     }
 }
 
@@ -47,8 +51,11 @@ fn expect_own_known(rt: &impl Abort, alloc: Global, replica: &Replica<2>) {
 fn knows_its_own_versions(rt: HostRuntime) {
     let alloc = rt.alloc();
     let replica = pair(&rt, alloc, 10);
-    expect_own_known(&rt, alloc, &replica);
+    for &(count, maker) in &[(1, 10), (2, 10), (5, 9)] {
+        expect_own_known(&rt, alloc, &replica, &item_id(&rt, count, maker));
+    }
     assert!(rt; knows_as_stored(&rt, alloc));
+    drop(replica);
 }
 
 /// The tick of an item, 0 for none.
@@ -76,19 +83,22 @@ fn found_from_ends(replica: &Replica<2>) -> (u64, u64) {
     )
 }
 
+/// The tick and replica of an id, and what a pair finds by it.
+const FOUND: &[(u64, u128, (u64, u64, u64))] = &[
+    (1, 9, (0, 1, 1)),
+    (1, 10, (1, 1, 2)),
+    (1, 11, (0, 2, 2)),
+    (2, 9, (0, 2, 2)),
+    (2, 10, (2, 2, 0)),
+    (2, 11, (0, 0, 0)),
+    (3, 10, (0, 0, 0)),
+];
+
 /// A pair is to find its items by their ids, and by any place before them.
 fn expect_found(rt: &impl Abort, replica: &Replica<2>) {
-    for (count, maker, here, from, behind) in [
-        (1, 9, 0, 1, 1),
-        (1, 10, 1, 1, 2),
-        (1, 11, 0, 2, 2),
-        (2, 9, 0, 2, 2),
-        (2, 10, 2, 2, 0),
-        (2, 11, 0, 0, 0),
-        (3, 10, 0, 0, 0),
-    ] {
-        let told = found(replica, &item_id(rt, count, maker));
-        assert!(rt; told == (here, from, behind), "{count} {maker}");
+    for &(count, maker, told) in FOUND {
+        let is_so = found(replica, &item_id(rt, count, maker)) == told;
+        assert!(rt; is_so, "{count} {maker}");
     }
     assert!(rt; found_from_ends(replica) == (1, 0));
 }
@@ -97,6 +107,7 @@ fn expect_found(rt: &impl Abort, replica: &Replica<2>) {
 fn finds_items(rt: HostRuntime) {
     let replica = pair(&rt, rt.alloc(), 10);
     expect_found(&rt, &replica);
+    drop(replica);
 }
 
 /// The tick of the id at this place, 0 for none, and for one of another replica.
@@ -117,11 +128,11 @@ fn clashing(
 ) -> (usize, u64, u64) {
     let name = name(rt, alloc, text);
     let ids = replica.clashing(alloc, &name, except).expect(rt, "ids");
-    (
-        ids.len(),
-        tick_at(ids.as_slice(), 0),
-        tick_at(ids.as_slice(), 1),
-    )
+    drop(name);
+    let (first, second) = (tick_at(ids.as_slice(), 0), tick_at(ids.as_slice(), 1));
+    let count = ids.len();
+    drop(ids);
+    (count, first, second)
 }
 
 /// The item of this tick and replica, where there is one.
@@ -130,20 +141,26 @@ fn excepted(rt: &impl Abort, of: Option<(u64, u128)>) -> Option<ItemId> {
     Some(item_id(rt, count, replica))
 }
 
-/// A replica that created `dir/f`, `dir2` and `dir/g` is to list those that clash but the excepted one.
+/// A name, the tick and replica of the excepted item, and how many others clash and the ticks of two of them.
+type Clashing<'a> = (&'a str, Option<(u64, u128)>, (usize, u64, u64));
+
+/// What a replica that created `dir/f`, `dir2` and `dir/g` lists.
+const CLASHING: &[Clashing] = &[
+    ("dir", None, (2, 1, 3)),
+    ("dir", Some((1, 10)), (1, 3, 0)),
+    ("dir", Some((1, 11)), (2, 1, 3)),
+    ("dir/g", None, (1, 3, 0)),
+    ("dir/g/h", None, (1, 3, 0)),
+    ("dir/g/h", Some((3, 10)), (0, 0, 0)),
+    ("di", None, (0, 0, 0)),
+    ("dir2/x", Some((3, 10)), (1, 2, 0)),
+];
+
+/// The replica is to list those that clash but the excepted one.
 fn expect_clashing(rt: &impl Abort, alloc: Global, replica: &Replica<1>) {
-    for (text, except, told) in [
-        ("dir", None, (2, 1, 3)),
-        ("dir", Some((1, 10)), (1, 3, 0)),
-        ("dir", Some((1, 11)), (2, 1, 3)),
-        ("dir/g", None, (1, 3, 0)),
-        ("dir/g/h", None, (1, 3, 0)),
-        ("dir/g/h", Some((3, 10)), (0, 0, 0)),
-        ("di", None, (0, 0, 0)),
-        ("dir2/x", Some((3, 10)), (1, 2, 0)),
-    ] {
-        let answer = clashing(rt, alloc, replica, text, excepted(rt, except));
-        assert!(rt; answer == told, "{text}");
+    for &(text, except, told) in CLASHING {
+        let is_so = clashing(rt, alloc, replica, text, excepted(rt, except)) == told;
+        assert!(rt; is_so, "{text}");
     }
 }
 
@@ -152,6 +169,7 @@ fn lists_clashing_items(rt: HostRuntime) {
     let alloc = rt.alloc();
     let replica = with_names(&rt, alloc, &["dir/f", "dir2", "dir/g"]);
     expect_clashing(&rt, alloc, &replica);
+    drop(replica);
 }
 
 /// Makes the edit of this number, where there is one.
@@ -185,7 +203,11 @@ fn unlike(rt: &impl Abort, alloc: Global, which: usize) -> Replica<2> {
 
 /// Whether these two of the seven, each made for itself, have the same live items.
 fn alike_at(rt: &impl Abort, alloc: Global, i: usize, j: usize) -> bool {
-    are_alike(&unlike(rt, alloc, i), &unlike(rt, alloc, j))
+    let (a, b) = (unlike(rt, alloc, i), unlike(rt, alloc, j));
+    let is_alike = are_alike(&a, &b);
+    drop(a);
+    drop(b);
+    is_alike
 }
 
 #[test]
@@ -212,7 +234,9 @@ fn copied(
     let copy = replica.copy(alloc).expect(rt, "a copy");
     let told = compared(&copy, replica);
     create_two(rt, alloc, replica, "d", "").expect(rt, "an item");
-    (told, counts(&copy))
+    let counts = counts(&copy);
+    drop(copy);
+    (told, counts)
 }
 
 #[test]
@@ -221,6 +245,7 @@ fn copies_a_replica(rt: HostRuntime) {
     let mut replica = pair(&rt, alloc, 10);
     let told = ((true, true, (2, 2)), (2, 2));
     assert!(rt; copied(&rt, alloc, &mut replica) == told);
+    drop(replica);
 }
 
 /// How many items the replica lists as unseen, and the tick of the first.
@@ -233,7 +258,9 @@ fn unseen(
     limit: usize,
 ) -> (usize, u64) {
     let ids = replica.unseen(alloc, to, from, limit).expect(rt, "ids");
-    (ids.len(), tick_at(ids.as_slice(), 0))
+    let (count, first) = (ids.len(), tick_at(ids.as_slice(), 0));
+    drop(ids);
+    (count, first)
 }
 
 /// What the replica lists as unseen to one that knows nothing.
@@ -245,13 +272,17 @@ fn unseen_at_first(
     limit: usize,
 ) -> (usize, u64) {
     let nothing = Knowledge::none(alloc).expect(rt, "knowledge");
-    unseen(rt, alloc, replica, &nothing, from, limit)
+    let told = unseen(rt, alloc, replica, &nothing, from, limit);
+    drop(nothing);
+    told
 }
 
 /// What the replica lists as unseen to itself.
 fn unseen_to_itself(rt: &impl Abort, alloc: Global, replica: &Replica<2>) -> (usize, u64) {
     let known = known_to(rt, alloc, replica);
-    unseen(rt, alloc, replica, &known, &Cut::Start, 9)
+    let told = unseen(rt, alloc, replica, &known, &Cut::Start, 9);
+    drop(known);
+    told
 }
 
 /// A pair is to list its items from the cut on, at most as many as the limit says.
@@ -275,6 +306,7 @@ fn lists_unseen_items(rt: HostRuntime) {
     let alloc = rt.alloc();
     let replica = pair(&rt, alloc, 10);
     expect_unseen(&rt, alloc, &replica);
+    drop(replica);
 }
 
 /// What a pair that wrote to a unit of the item lists as unseen to what it knew before.
@@ -282,7 +314,10 @@ fn unseen_edit(rt: &impl Abort, alloc: Global, id: &ItemId, k: usize) -> (usize,
     let mut replica = pair(rt, alloc, 10);
     let known = known_to(rt, alloc, &replica);
     set(rt, alloc, &mut replica, id, k, "d").expect(rt, "a version");
-    unseen(rt, alloc, &replica, &known, &Cut::Start, 9)
+    let told = unseen(rt, alloc, &replica, &known, &Cut::Start, 9);
+    drop(known);
+    drop(replica);
+    told
 }
 
 #[test]

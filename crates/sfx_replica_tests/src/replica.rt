@@ -10,7 +10,9 @@ use std::process::Abort;
 /// Whether the replica stores that it knows nothing.
 fn stores_nothing(rt: &impl Abort, alloc: Global, replica: &Replica<1>) -> bool {
     let nothing = Knowledge::none(alloc).expect(rt, "knowledge");
-    replica.stored().same(&nothing)
+    let is_same = replica.stored().same(&nothing);
+    drop(nothing);
+    is_same
 }
 
 /// Whether the item is live, with this text at the unit, of this version.
@@ -55,13 +57,17 @@ fn created(
     (id, counts(replica), is_held)
 }
 
+/// The names of items, and the ticks that they are created at.
+const NAMES: &[(&str, u64)] = &[("dir/f", 1), ("dir2", 2), ("di", 3), ("dir/g", 4)];
+
 /// A new replica is to begin with nothing, and to create items at the ticks from 1 on.
 fn expect_created(rt: &impl Abort, alloc: Global, replica: &mut Replica<1>) {
     assert!(rt; told_of(replica) == (ReplicaId::new(10), (0, 0), 0));
     let unit = unit::<1>(rt, 0);
-    for (name, count) in [("dir/f", 1), ("dir2", 2), ("di", 3), ("dir/g", 4)] {
+    for &(name, count) in NAMES {
         let told = (item_id(rt, count, 10), (count, count), true);
-        assert!(rt; created(rt, alloc, replica, unit, name) == told, "{name}");
+        let is_so = created(rt, alloc, replica, unit, name) == told;
+        assert!(rt; is_so, "{name}");
     }
     assert!(rt; stores_nothing(rt, alloc, replica));
 }
@@ -71,6 +77,7 @@ fn creates_items(rt: HostRuntime) {
     let alloc = rt.alloc();
     let mut replica = Replica::<1>::new(alloc, ReplicaId::new(10)).expect(&rt, "a replica");
     expect_created(&rt, alloc, &mut replica);
+    drop(replica);
 }
 
 /// What the replica answers where an item is to be created, and its counts then.
@@ -84,21 +91,27 @@ fn refused_name(
     (answer, counts(replica))
 }
 
+/// Texts that are no names, and where they go wrong.
+const BAD_NAMES: &[(&str, usize)] = &[("", 0), ("b/", 2), ("b//f", 2), ("b\u{1}", 1)];
+
 /// A replica of three items is to refuse texts that are no names.
 fn expect_bad_names(rt: &impl Abort, alloc: Global, replica: &mut Replica<1>) {
-    for (name, at) in [("", 0), ("b/", 2), ("b//f", 2), ("b\u{1}", 1)] {
+    for &(name, at) in BAD_NAMES {
         let fault = Err(EditFault::BadName(at));
-        let answer = refused_name(rt, alloc, replica, name);
-        assert!(rt; answer == (fault, (3, 3)), "{name}");
+        let is_so = refused_name(rt, alloc, replica, name) == (fault, (3, 3));
+        assert!(rt; is_so, "{name}");
     }
 }
 
+/// Names, and the ticks of the items that they clash with.
+const CLASHES: &[(&str, u64)] = &[("b", 3), ("b/f", 3), ("a", 1), ("a/x", 1), ("a/z/x", 2)];
+
 /// A replica that created `a/x/y`, `a/z` and `b` is to refuse names that clash with theirs.
 fn expect_clashes(rt: &impl Abort, alloc: Global, replica: &mut Replica<1>) {
-    for (name, item) in [("b", 3), ("b/f", 3), ("a", 1), ("a/x", 1), ("a/z/x", 2)] {
+    for &(name, item) in CLASHES {
         let fault = Err(EditFault::Clash(item_id(rt, item, 10)));
-        let answer = refused_name(rt, alloc, replica, name);
-        assert!(rt; answer == (fault, (3, 3)), "{name}");
+        let is_so = refused_name(rt, alloc, replica, name) == (fault, (3, 3));
+        assert!(rt; is_so, "{name}");
     }
     assert!(rt; create(rt, alloc, replica, "a/x2") == Ok(item_id(rt, 4, 10)));
 }
@@ -109,6 +122,7 @@ fn refuses_creation(rt: HostRuntime) {
     let mut replica = with_names(&rt, alloc, &["a/x/y", "a/z", "b"]);
     expect_bad_names(&rt, alloc, &mut replica);
     expect_clashes(&rt, alloc, &mut replica);
+    drop(replica);
 }
 
 /// Writes the text to the unit of the item: the version, the counts then, and whether the item has it.
@@ -125,27 +139,25 @@ fn written(
     (made, counts(replica), is_held)
 }
 
-/// Writes to a pair: an equal value, a name of its own, a name below its own, and one that is free again.
+/// What is written to a pair, and the tick of that: an equal value, a name of its own, a name below its own, and
+/// one that is free again. A row: the item, the unit, the text and the tick.
+const WRITTEN: &[(u64, usize, &str, u64)] = &[
+    (1, 1, "1", 3),
+    (1, 0, "a", 4),
+    (1, 0, "a/d", 5),
+    (2, 0, "b", 6),
+    (2, 1, "", 7),
+    (1, 0, "a", 8),
+    (1, 1, "b", 9),
+];
+
+/// A pair is to take each text at its tick.
 fn expect_written(rt: &impl Abort, alloc: Global, replica: &mut Replica<2>) {
-    for (item, k, text, count) in [
-        (1, 1, "1", 3),
-        (1, 0, "a", 4),
-        (1, 0, "a/d", 5),
-        (2, 0, "b", 6),
-        (2, 1, "", 7),
-        (1, 0, "a", 8),
-        (1, 1, "b", 9),
-    ] {
-        let answer = written(
-            rt,
-            alloc,
-            replica,
-            &item_id(rt, item, 10),
-            unit::<2>(rt, k),
-            text,
-        );
+    for &(item, k, text, count) in WRITTEN {
+        let (id, unit) = (item_id(rt, item, 10), unit::<2>(rt, k));
         let told = (version(rt, 10, count), (count, 2), true);
-        assert!(rt; answer == told, "{text}");
+        let is_so = written(rt, alloc, replica, &id, unit, text) == told;
+        assert!(rt; is_so, "{text}");
     }
 }
 
@@ -163,6 +175,7 @@ fn sets_values(rt: HostRuntime) {
     let mut replica = pair(&rt, alloc, 10);
     expect_written(&rt, alloc, &mut replica);
     expect_kept(&rt, &replica);
+    drop(replica);
 }
 
 /// What a pair answers to a text for the unit of the item, its clock then, and whether it is as at first.
@@ -201,4 +214,5 @@ fn refuses_values(rt: HostRuntime) {
     let alloc = rt.alloc();
     let mut replica = pair(&rt, alloc, 10);
     expect_not_written(&rt, alloc, &mut replica);
+    drop(replica);
 }

@@ -34,45 +34,40 @@ fn raise(vector: &mut ClockVector, replica: u128, tick: u64) -> Result<(), Memor
 }
 
 /// These ticks of `a` and `b`; 0 is none.
-fn ticks(alloc: Global, a: u64, b: u64) -> Result<ClockVector, Memory> {
+fn ticks(rt: &impl Abort, alloc: Global, a: u64, b: u64) -> ClockVector {
     let mut vector = ClockVector::new(alloc);
-    raise(&mut vector, A, a)?;
-    raise(&mut vector, B, b)?;
-    Ok(vector)
+    raise(&mut vector, A, a).expect(rt, "memory");
+    raise(&mut vector, B, b).expect(rt, "memory");
+    vector
 }
 
 /// These ticks of `a` and `b`, at every place and unit; 0 is none.
-fn known(alloc: Global, a: u64, b: u64) -> Result<Knowledge<2>, Memory> {
-    let row = UnitRow::new(alloc, ticks(alloc, a, b)?);
-    Ok(Knowledge::from_segments(Segments::new(alloc, row)?))
+fn known(rt: &impl Abort, alloc: Global, a: u64, b: u64) -> Knowledge<2> {
+    let row = UnitRow::new(alloc, ticks(rt, alloc, a, b));
+    Knowledge::from_segments(Segments::new(alloc, row).expect(rt, "memory"))
 }
 
 /// Deletions of `a` up to this tick; 0 is none.
-fn forgotten(alloc: Global, tick: u64) -> Result<Forgotten, Memory> {
+fn forgotten(rt: &impl Abort, alloc: Global, tick: u64) -> Forgotten {
     let mut forgotten = Forgotten::none(alloc);
     if let Some(tick) = Tick::new(tick) {
         let replica = ReplicaId::new(A);
-        forgotten.forget(&Version { replica, tick })?;
+        let of = Version { replica, tick };
+        forgotten.forget(&of).expect(rt, "memory");
     }
-    Ok(forgotten)
+    forgotten
 }
 
-fn cell(alloc: Global, version: Version, text: &str) -> Result<Cell, Memory> {
-    let value = value(alloc, text)?;
-    Ok(Cell { version, value })
-}
-
-/// The name `n` at this version, and this value at that one.
-fn cells(alloc: Global, named: Version, of: Version, text: &str) -> Result<Vec<Cell>, Memory> {
-    let mut cells = Vec::new(alloc);
-    cells.push(cell(alloc, named, "n")?)?;
-    cells.push(cell(alloc, of, text)?)?;
-    Ok(cells)
+fn cell(rt: &impl Abort, alloc: Global, version: Version, text: &str) -> Cell {
+    let value = value(rt, alloc, text);
+    Cell { version, value }
 }
 
 /// Cells of the name `n` at `1@a`, and of this value and version.
 fn row(rt: &impl Abort, alloc: Global, of: Version, text: &str) -> Row<2> {
-    let cells = cells(alloc, version(rt, A, 1), of, text).expect(rt, "cells");
+    let name = cell(rt, alloc, version(rt, A, 1), "n");
+    let cells = [name, cell(rt, alloc, of, text)];
+    let cells = Vec::from_array(alloc, cells).expect(rt, "memory");
     let row = Row::new(alloc, cells).expect(rt, "memory");
     row.expect(rt, "a row")
 }
@@ -116,17 +111,25 @@ fn class_at(
     known: &Knowledge<2>,
     gone: u64,
 ) -> Told {
-    let forgotten = forgotten(alloc, gone).expect(rt, "deletions");
+    let forgotten = forgotten(rt, alloc, gone);
     let class = classify(alloc, change, made_with, local, known, &forgotten);
-    told_of(rt, &class.expect(rt, "a class"))
+    drop(forgotten);
+    let class = class.expect(rt, "a class");
+    let told = told_of(rt, &class);
+    drop(class);
+    told
 }
 
 /// What a change of this version, whose source knows `a=1 b=1`, is where the item is absent.
 fn absent(rt: &impl Abort, alloc: Global, of: Version, tick: u64, gone: u64) -> Told {
     let change = item(rt, alloc, LIVE, of);
-    let made_with = known(alloc, 1, 1).expect(rt, "knowledge");
-    let known = known(alloc, tick, 0).expect(rt, "knowledge");
-    class_at(rt, alloc, &change, None, &made_with, &known, gone)
+    let made_with = known(rt, alloc, 1, 1);
+    let known = known(rt, alloc, tick, 0);
+    let told = class_at(rt, alloc, &change, None, &made_with, &known, gone);
+    drop(known);
+    drop(made_with);
+    drop(change);
+    told
 }
 
 /// A row: the replica that made the change, the ticks of `a` that are known and forgotten, and the class.
@@ -145,9 +148,12 @@ fn classifies_what_is_absent(rt: HostRuntime) {
 
 /// What the change is where the item is so and `a=1 b=1` is known; its source knows `a=2` and this tick of `b`.
 fn class_with(rt: &impl Abort, alloc: Global, change: &Item<2>, local: &Item<2>, b: u64) -> Told {
-    let made_with = known(alloc, 2, b).expect(rt, "knowledge");
-    let known = known(alloc, 1, 1).expect(rt, "knowledge");
-    class_at(rt, alloc, change, Some(local), &made_with, &known, 0)
+    let made_with = known(rt, alloc, 2, b);
+    let known = known(rt, alloc, 1, 1);
+    let told = class_at(rt, alloc, change, Some(local), &made_with, &known, 0);
+    drop(known);
+    drop(made_with);
+    told
 }
 
 /// What a change at `2@a`, whose source knows `a=2` and this tick of `b`, is where the item is at `1@b`; each of
@@ -155,7 +161,10 @@ fn class_with(rt: &impl Abort, alloc: Global, change: &Item<2>, local: &Item<2>,
 fn present(rt: &impl Abort, alloc: Global, is_live: bool, is_live_there: bool, b: u64) -> Told {
     let change = item(rt, alloc, is_live, version(rt, A, 2));
     let local = item(rt, alloc, is_live_there, version(rt, B, 1));
-    class_with(rt, alloc, &change, &local, b)
+    let told = class_with(rt, alloc, &change, &local, b);
+    drop(local);
+    drop(change);
+    told
 }
 
 /// A row: whether the change is live, whether the item is, the tick of `b` that the source knows, and the class.
@@ -190,12 +199,11 @@ fn length_of(values: Option<&Vec<Value>>) -> usize {
 }
 
 /// The marks of a draft, and how long its value for unit 1 is; 0 where it has no values.
-fn result_of(rt: &impl Abort, draft: &Draft<2>) -> (Mark, Mark, usize) {
-    (
-        draft.marks.get(unit(rt, 0)),
-        draft.marks.get(unit(rt, 1)),
-        length_of(draft.values.as_ref()),
-    )
+fn result_of(rt: &impl Abort, draft: Draft<2>) -> (Mark, Mark, usize) {
+    let (name, value) = (draft.marks.get(unit(rt, 0)), draft.marks.get(unit(rt, 1)));
+    let length = length_of(draft.values.as_ref());
+    drop(draft);
+    (name, value, length)
 }
 
 /// The classes of a conflict at unit 1; the name is known.
@@ -220,14 +228,19 @@ fn settled_units(
     };
     let classes = conflicting(rt, alloc);
     let draft = settle_units(alloc, change, local, &classes, &rules).expect(rt, "a draft");
-    result_of(rt, &draft)
+    drop(classes);
+    drop(rules);
+    result_of(rt, draft)
 }
 
 /// What is drafted for `aa` and `b` in conflict.
 fn conflict(rt: &impl Abort, alloc: Global, keep: Keep) -> (Mark, Mark, usize) {
     let change = row(rt, alloc, version(rt, A, 2), "aa");
     let local = row(rt, alloc, version(rt, B, 1), "b");
-    settled_units(rt, alloc, &change, &local, keep)
+    let told = settled_units(rt, alloc, &change, &local, keep);
+    drop(local);
+    drop(change);
+    told
 }
 
 /// A row: the rule, the mark of unit 1, and how long its value is.
@@ -249,7 +262,9 @@ fn deletion(rt: &impl Abort, alloc: Global, keep: Keep) -> (Mark, Mark, usize) {
     let gone = item(rt, alloc, DEAD, version(rt, A, 2));
     let held = item(rt, alloc, LIVE, version(rt, B, 1));
     let draft = settle_whole(alloc, Some(&gone), Some(&held), keep).expect(rt, "a draft");
-    result_of(rt, &draft)
+    drop(held);
+    drop(gone);
+    result_of(rt, draft)
 }
 
 /// A row: the rule, the mark of both units, and how long the value of unit 1 is.
@@ -268,11 +283,12 @@ fn settles_whole_items(rt: HostRuntime) {
 
 /// What is drafted for an item that is taken, after a clash.
 fn clash(rt: &impl Abort, alloc: Global, rule: ClashRule) -> (Mark, Mark, usize) {
-    let values = two(alloc, "n", "x").expect(rt, "values");
+    let values = two(rt, alloc, "n", "x");
     let draft = Draft::all(alloc, Mark::Taken, Some(values)).expect(rt, "a draft");
     let copy = draft.copy(alloc).expect(rt, "a copy");
+    drop(draft);
     let settled = settle_clash(alloc, copy, rule).expect(rt, "a draft");
-    result_of(rt, &settled)
+    result_of(rt, settled)
 }
 
 /// A row: the rule, the marks of both units, and how long the value of unit 1 is.
