@@ -1,18 +1,19 @@
 //! Batches that are applied to small replicas.
-ghost use Rattle.std.specs.Prelude.{◌≡◌, ◌≤◌, IfOk};
+ghost use Rattle.std.specs.Prelude.{◌≡◌, ◌≤◌};
 ghost use Rattle.sfx_model.specs.declared.mode.Mode.TheVariants.{Normal};
 
 use crate::fixtures::{
-    THREE, count_of, due, due_to_new, first_batch, item_of, known, learner, provider, second_hand,
+    THREE, count_of, due, due_to_new, first_batch, item_of, known, learner, left, provider,
+    second_hand,
 };
 use sfx_apply::{ApplyFault, apply_batch};
 use sfx_batch::Batch;
 use sfx_ids::{Cut, ItemId, UnitId, Version};
 use sfx_item::Value;
 use sfx_model::{ApplyEnd, EntryKind, Mode};
-use sfx_replica::{EditFault, MemoryProvider, Replica};
+use sfx_replica::{MemoryProvider, Replica};
 use std::alloc::Global;
-use std::test::Fail;
+use std::process::Abort;
 
 /// Applies the batch, and tells how many entries it made, how many of them skipped, and how it ended.
 fn apply(
@@ -27,72 +28,66 @@ fn apply(
 {
     let applied = apply_batch(alloc, destination, batch, group, budget)?;
     let skipped = count_of(&applied, EntryKind::Skipped);
-    Ok((applied.entries.len(), skipped, applied.end))
+    let told = (applied.entries.len(), skipped, applied.end);
+    drop(applied);
+    Ok(told)
 }
 
-/// What is told of the batch where it is applied to a new replica with this id, whose listed calls fail, and
-/// how many items that has then.
+/// What is told of a batch that was applied, and how many items its destination has then.
+type Told = (Result<(usize, usize, ApplyEnd), ApplyFault>, usize);
+
+/// What is told of the batch where it is applied to a new replica with the id 11, whose listed calls fail.
 fn bring(
+    rt: &impl Abort,
     alloc: Global,
     batch: &Batch<2>,
-    destination: (u128, &[u64]),
-    group: u64,
-    budget: Option<u64>,
-) -> Result<(Result<(usize, usize, ApplyEnd), ApplyFault>, usize), Fail>
-    requires normal { batch.now.mode ≡ Normal }
-    requires group { 1 ≤ group }
-{
-    let (id, fails) = destination;
-    let mut to = provider(alloc, id, &[], fails)?;
-    let told = apply(alloc, batch, &mut to, group, budget);
-    Ok((told, to.into_replica().items().len()))
-}
-
-/// The same of a batch of three items.
-fn to_new(
-    alloc: Global,
     fails: &[u64],
     group: u64,
     budget: Option<u64>,
-) -> Result<(Result<(usize, usize, ApplyEnd), ApplyFault>, usize), Fail>
-    requires { 1 ≤ group }
+) -> Told
+    requires normal { batch.now.mode ≡ Normal }
+    requires group { 1 ≤ group }
 {
-    let batch = first_batch(alloc, &Cut::Start, 10, Mode::Normal)?;
-    bring(alloc, &batch, (11, fails), group, budget)
+    let mut to = provider(rt, alloc, 11, &[], fails);
+    let told = apply(alloc, batch, &mut to, group, budget);
+    (told, left(to))
 }
 
-/// Whether within this budget so many of three items come, each with its entry, and the batch ends so.
-fn ends_within(
-    alloc: Global,
-    budget: Option<u64>,
-    items: usize,
-    end: ApplyEnd,
-) -> Result<bool, Fail> {
-    Ok(to_new(alloc, &[], 2, budget)? == (Ok((items, 0, end)), items))
+/// The same of a batch of three items.
+fn to_new(rt: &impl Abort, alloc: Global, fails: &[u64], group: u64, budget: Option<u64>) -> Told
+    requires { 1 ≤ group }
+{
+    let batch = first_batch(rt, alloc, &Cut::Start, 10, Mode::Normal);
+    let told = bring(rt, alloc, &batch, fails, group, budget);
+    drop(batch);
+    told
 }
+
+/// A budget, how many of three items come within it, each with its entry, and how the batch ends.
+const BUDGETS: &[(Option<u64>, usize, ApplyEnd)] = &[
+    (None, 3, ApplyEnd::Whole),
+    (Some(3), 3, ApplyEnd::Whole),
+    (Some(0), 0, ApplyEnd::Cut),
+    (Some(1), 1, ApplyEnd::Cut),
+    (Some(2), 2, ApplyEnd::Cut),
+];
 
 #[test]
-fn ends_at_the_budget(rt: HostRuntime) -> Result<(), Fail> {
-    assert!(rt; ends_within(rt.alloc(), None, 3, ApplyEnd::Whole)?);
-    assert!(rt; ends_within(rt.alloc(), Some(3), 3, ApplyEnd::Whole)?);
-    for (budget, items) in [(0, 0), (1, 1), (2, 2)] {
-        let is_cut = ends_within(rt.alloc(), Some(budget), items, ApplyEnd::Cut)?;
-        assert!(rt; is_cut, "{budget}");
+fn ends_at_the_budget(rt: HostRuntime) {
+    for &(budget, items, end) in BUDGETS {
+        let told = to_new(&rt, rt.alloc(), &[], 2, budget);
+        assert!(rt; told == (Ok((items, 0, end)), items), "{budget:?}");
     }
-    Ok(())
 }
 
-/// The first call that leaves, where it fails, another number of items than its row says, or is no fault.
-fn first_wrong(alloc: Global, group: u64, rows: &[(u64, usize)]) -> Result<Option<u64>, Fail>
+/// Where each of these calls fails, so many items as its row says are to be left.
+fn expect_kept(rt: &impl Abort, alloc: Global, group: u64, rows: &[(u64, usize)])
     requires { 1 ≤ group }
 {
-    for (call, items) in rows {
-        let told = to_new(alloc, &[*call], group, None)?;
-        if told != (Err(ApplyFault::Provider), *items) {
-            return Ok(Some(*call));
-        }
+    for &(call, items) in rows {
+        let told = to_new(rt, alloc, &[call], group, None);
+        assert!(rt; told == (Err(ApplyFault::Provider), items), "{call}");
     }
-    Ok(None)
 }
 
 /// The calls of the destination in groups of one entry, and how many items are there where each fails.
@@ -102,24 +97,22 @@ const BY_ONE: &[(u64, usize)] = &[(1, 0), (2, 0), (4, 0), (5, 1), (7, 1), (8, 2)
 const BY_TWO: &[(u64, usize)] = &[(1, 0), (3, 0), (5, 0), (6, 0), (7, 2), (9, 2)];
 
 #[test]
-fn keeps_what_was_committed_before_a_fault(rt: HostRuntime) -> Result<(), Fail> {
-    assert_eq!(rt; first_wrong(rt.alloc(), 1, BY_ONE)?, None);
-    assert_eq!(rt; first_wrong(rt.alloc(), 2, BY_TWO)?, None);
-    Ok(())
+fn keeps_what_was_committed_before_a_fault(rt: HostRuntime) {
+    expect_kept(&rt, rt.alloc(), 1, BY_ONE);
+    expect_kept(&rt, rt.alloc(), 2, BY_TWO);
 }
 
 /// Whether the batch is applied whole where this call of the destination would fail.
-fn is_whole(alloc: Global, group: u64, call: u64) -> Result<bool, Fail>
+fn is_whole(rt: &impl Abort, alloc: Global, group: u64, call: u64) -> bool
     requires { 1 ≤ group }
 {
-    Ok(to_new(alloc, &[call], group, None)? == (Ok((3, 0, ApplyEnd::Whole)), 3))
+    to_new(rt, alloc, &[call], group, None) == (Ok((3, 0, ApplyEnd::Whole)), 3)
 }
 
 #[test]
-fn makes_no_further_calls(rt: HostRuntime) -> Result<(), Fail> {
-    assert!(rt; is_whole(rt.alloc(), 1, 11)?);
-    assert!(rt; is_whole(rt.alloc(), 2, 10)?);
-    Ok(())
+fn makes_no_further_calls(rt: HostRuntime) {
+    assert!(rt; is_whole(&rt, rt.alloc(), 1, 11));
+    assert!(rt; is_whole(&rt, rt.alloc(), 2, 10));
 }
 
 /// Whether the replica knows the version at this unit of the item.
@@ -141,122 +134,108 @@ fn seen(replica: &Replica<2>, item: &ItemId, version: &Version) -> (usize, bool,
 
 /// The batch that the source sends to this destination.
 fn batch(
+    rt: &impl Abort,
     alloc: Global,
     source: &mut MemoryProvider<2>,
     destination: &mut MemoryProvider<2>,
-) -> Result<Batch<2>, Fail>
-    ensures { IfOk result (λ b. b.mode ≡ Normal) }
+) -> Batch<2>
+    ensures { result.mode ≡ Normal }
 {
-    let known = known(alloc, destination)?;
-    due(alloc, source, &known, &Cut::Start, 10, Mode::Normal)
+    let known = known(rt, alloc, destination);
+    let batch = due(rt, alloc, source, &known, &Cut::Start, 10, Mode::Normal);
+    drop(known);
+    batch
 }
 
-/// How many entries of that batch are skipped.
-fn skipped(
-    alloc: Global,
-    source: &mut MemoryProvider<2>,
-    destination: &mut MemoryProvider<2>,
-) -> Result<usize, Fail> {
-    let batch = batch(alloc, source, destination)?;
-    let (_entries, skipped, _end) = apply(alloc, &batch, destination, 1, None)?;
-    Ok(skipped)
-}
-
-/// How many entries are skipped, and what the destination has of the item and its version then.
+/// How many entries of that batch are skipped, and what the destination has of the item and its version then.
 fn left_alone(
+    rt: &impl Abort,
     alloc: Global,
     source: &mut MemoryProvider<2>,
     mut destination: MemoryProvider<2>,
     item: &ItemId,
     version: &Version,
-) -> Result<(usize, (usize, bool, bool)), Fail> {
-    let skipped = skipped(alloc, source, &mut destination)?;
-    Ok((skipped, seen(&destination.into_replica(), item, version)))
-}
-
-/// Writes to unit 1 of the item.
-fn write(alloc: Global, replica: &mut Replica<2>, item: &ItemId) -> Result<Version, EditFault> {
-    replica.set(item, 1, Value::new(Vec::new(alloc)))
+) -> (usize, (usize, bool, bool)) {
+    let batch = batch(rt, alloc, source, &mut destination);
+    let applied = apply(alloc, &batch, &mut destination, 1, None);
+    drop(batch);
+    let (_entries, skipped, _end) = applied.expect(rt, "entries");
+    let replica = destination.into_replica();
+    let seen = seen(&replica, item, version);
+    drop(replica);
+    (skipped, seen)
 }
 
 /// The replica after it wrote to unit 1 of the item.
 fn writer(
+    rt: &impl Abort,
     alloc: Global,
     provider: MemoryProvider<2>,
     item: &ItemId,
-) -> Result<MemoryProvider<2>, Fail> {
+) -> MemoryProvider<2> {
     let mut replica = provider.into_replica();
-    write(alloc, &mut replica, item)?;
-    Ok(MemoryProvider::new(replica, Vec::new(alloc)))
+    let written = replica.set(item, 1, Value::new(Vec::new(alloc)));
+    written.expect(rt, "a version");
+    MemoryProvider::new(replica, Vec::new(alloc))
 }
 
-/// A replica that was brought all of the source, and wrote to unit 1 of the item then.
-fn diverging(
-    alloc: Global,
-    source: &mut MemoryProvider<2>,
-    item: &ItemId,
-) -> Result<MemoryProvider<2>, Fail> {
-    writer(alloc, learner(alloc, source, 11)?, item)
-}
-
-/// What is left alone where both wrote to unit 1 of the source's item.
+/// What is left alone where a replica was brought all of the source, and both wrote to unit 1 of its item then.
 fn conflict(
+    rt: &impl Abort,
     alloc: Global,
     item: &ItemId,
     version: &Version,
-) -> Result<(usize, (usize, bool, bool)), Fail> {
-    let mut source = provider(alloc, 10, &["a"], &[])?;
-    let destination = diverging(alloc, &mut source, item)?;
-    let mut source = writer(alloc, source, item)?;
-    left_alone(alloc, &mut source, destination, item, version)
+) -> (usize, (usize, bool, bool)) {
+    let mut source = provider(rt, alloc, 10, &["a"], &[]);
+    let destination = learner(rt, alloc, &mut source, 11);
+    let destination = writer(rt, alloc, destination, item);
+    let mut source = writer(rt, alloc, source, item);
+    let told = left_alone(rt, alloc, &mut source, destination, item, version);
+    drop(source);
+    told
 }
 
 #[test]
-fn leaves_a_conflict_alone(rt: HostRuntime) -> Result<(), Fail> {
+fn leaves_a_conflict_alone(rt: HostRuntime) {
     let theirs = item_of(&rt, 10, 2).creation();
-    let told = conflict(rt.alloc(), &item_of(&rt, 10, 1), &theirs)?;
+    let told = conflict(&rt, rt.alloc(), &item_of(&rt, 10, 1), &theirs);
     assert!(rt; told == (1, (1, true, false)));
-    Ok(())
 }
 
 /// What is left alone where both created an item of one name.
 fn clash(
+    rt: &impl Abort,
     alloc: Global,
     item: &ItemId,
     version: &Version,
-) -> Result<(usize, (usize, bool, bool)), Fail> {
-    let mut source = provider(alloc, 10, &["a"], &[])?;
-    let destination = provider(alloc, 11, &["a"], &[])?;
-    left_alone(alloc, &mut source, destination, item, version)
+) -> (usize, (usize, bool, bool)) {
+    let mut source = provider(rt, alloc, 10, &["a"], &[]);
+    let destination = provider(rt, alloc, 11, &["a"], &[]);
+    let told = left_alone(rt, alloc, &mut source, destination, item, version);
+    drop(source);
+    told
 }
 
 #[test]
-fn leaves_a_clash_alone(rt: HostRuntime) -> Result<(), Fail> {
+fn leaves_a_clash_alone(rt: HostRuntime) {
     let item = item_of(&rt, 10, 1);
-    let told = clash(rt.alloc(), &item, &item.creation())?;
+    let told = clash(&rt, rt.alloc(), &item, &item.creation());
     assert!(rt; told == (1, (1, false, false)));
-    Ok(())
 }
 
-/// A batch of a replica that was brought three items of the replica with this id.
-fn batch_back(alloc: Global, id: u128) -> Result<Batch<2>, Fail>
-    ensures { IfOk result (λ b. b.mode ≡ Normal) }
-{
-    let mut source = second_hand(alloc, id, THREE)?;
-    due_to_new(alloc, &mut source, &Cut::Start, 10, Mode::Normal)
-}
-
-/// What is told of such a batch where it comes to an old copy of that replica.
-fn to_old_copy(
-    alloc: Global,
-) -> Result<(Result<(usize, usize, ApplyEnd), ApplyFault>, usize), Fail> {
-    let batch = batch_back(alloc, 11)?;
-    bring(alloc, &batch, (11, &[]), 1, None)
+/// What is told of a batch of a replica that was brought three items of another, where it comes to an old copy
+/// of that.
+fn to_old_copy(rt: &impl Abort, alloc: Global) -> Told {
+    let mut source = second_hand(rt, alloc, 11, THREE);
+    let batch = due_to_new(rt, alloc, &mut source, &Cut::Start, 10, Mode::Normal);
+    drop(source);
+    let told = bring(rt, alloc, &batch, &[], 1, None);
+    drop(batch);
+    told
 }
 
 #[test]
-fn refuses_an_old_copy(rt: HostRuntime) -> Result<(), Fail> {
+fn refuses_an_old_copy(rt: HostRuntime) {
     let ahead = ApplyFault::Ahead { tick: 3, clock: 0 };
-    assert!(rt; to_old_copy(rt.alloc())? == (Err(ahead), 0));
-    Ok(())
+    assert!(rt; to_old_copy(&rt, rt.alloc()) == (Err(ahead), 0));
 }

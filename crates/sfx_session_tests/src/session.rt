@@ -1,12 +1,12 @@
 //! Sessions of small replicas.
 ghost use Rattle.std.specs.Prelude.{◌≤◌, IfSome};
 
-use crate::fixtures::{count_of, provider, second_hand};
+use crate::fixtures::{count_of, left, provider, second_hand};
 use sfx_model::{EntryKind, SessionEnd};
 use sfx_replica::MemoryProvider;
 use sfx_session::{Report, SessionFault, session};
 use std::alloc::Global;
-use std::test::Fail;
+use std::process::Abort;
 
 /// The names of five items.
 const FIVE: &[&str] = &["a", "b", "c", "d", "e"];
@@ -31,104 +31,104 @@ pub fn sync(
     requires { IfSome cut (λ n. 1 ≤ n) }
 {
     let report = session(alloc, from, to, 100, 5, cut)?;
-    Ok((report.end, report.steps.len(), taken(&report)))
+    let told = (report.end, report.steps.len(), taken(&report));
+    drop(report);
+    Ok(told)
 }
 
-/// What is told of a session to a new replica with this id, whose listed calls fail, and how many items that
-/// has then.
+/// What is told of a session, and how many items its destination has then.
+type Told = (Result<(SessionEnd, usize, usize), SessionFault>, usize);
+
+/// What is told of a session to a new replica with this id, whose listed calls fail.
 fn bring(
+    rt: &impl Abort,
     alloc: Global,
     from: &mut MemoryProvider<2>,
-    destination: (u128, &[u64]),
+    id: u128,
+    fails: &[u64],
     cut: Option<u64>,
-) -> Result<(Result<(SessionEnd, usize, usize), SessionFault>, usize), Fail>
+) -> Told
     requires { IfSome cut (λ n. 1 ≤ n) }
 {
-    let (id, fails) = destination;
-    let mut to = provider(alloc, id, &[], fails)?;
+    let mut to = provider(rt, alloc, id, &[], fails);
     let told = sync(alloc, from, &mut to, cut);
-    Ok((told, to.into_replica().items().len()))
+    (told, left(to))
 }
 
 /// The same of a session from a replica with five items and the id 10, whose listed calls fail.
 fn five_to(
+    rt: &impl Abort,
     alloc: Global,
     fails: &[u64],
     destination: (u128, &[u64]),
     cut: Option<u64>,
-) -> Result<(Result<(SessionEnd, usize, usize), SessionFault>, usize), Fail>
+) -> Told
     requires { IfSome cut (λ n. 1 ≤ n) }
 {
-    let mut from = provider(alloc, 10, FIVE, fails)?;
-    bring(alloc, &mut from, destination, cut)
+    let mut from = provider(rt, alloc, 10, FIVE, fails);
+    let told = bring(rt, alloc, &mut from, destination.0, destination.1, cut);
+    drop(from);
+    told
 }
 
 #[test]
-fn takes_five_items(rt: HostRuntime) -> Result<(), Fail> {
-    let told = five_to(rt.alloc(), &[], (11, &[]), None)?;
+fn takes_five_items(rt: HostRuntime) {
+    let told = five_to(&rt, rt.alloc(), &[], (11, &[]), None);
     assert!(rt; told == (Ok((SessionEnd::Done, 1, 5)), 5));
-    Ok(())
 }
 
 #[test]
-fn ends_at_a_cut(rt: HostRuntime) -> Result<(), Fail> {
-    let told = five_to(rt.alloc(), &[], (11, &[]), Some(2))?;
+fn ends_at_a_cut(rt: HostRuntime) {
+    let told = five_to(&rt, rt.alloc(), &[], (11, &[]), Some(2));
     assert!(rt; told == (Ok((SessionEnd::Cut, 1, 2)), 2));
-    Ok(())
 }
 
 /// Whether there was a report, with five items, where this call of the destination fails; or else the fault of
 /// the destination, with none or all of them. `None` where it was neither.
-fn reports(alloc: Global, call: u64) -> Result<Option<bool>, Fail> {
-    match five_to(alloc, &[], (11, &[call]), None)? {
-        (Ok(_), 5) => Ok(Some(true)),
-        (Err(SessionFault::Destination), 0 | 5) => Ok(Some(false)),
-        (_, _) => Ok(None),
+fn reports(rt: &impl Abort, alloc: Global, call: u64) -> Option<bool> {
+    match five_to(rt, alloc, &[], (11, &[call]), None) {
+        (Ok(_), 5) => Some(true),
+        (Err(SessionFault::Destination), 0 | 5) => Some(false),
+        (_, _) => None,
     }
 }
 
 #[test]
-fn fails_with_its_destination(rt: HostRuntime) -> Result<(), Fail> {
+fn fails_with_its_destination(rt: HostRuntime) {
     let mut reported = false;
     for call in 1..40 {
-        let now = reports(rt.alloc(), call)?;
-        assert!(rt;
-            now == Some(true) || (now == Some(false) && !reported),
-            "{call}"
-        );
+        let now = reports(&rt, rt.alloc(), call);
+        let is_so = now == Some(true) || (now == Some(false) && !reported);
+        assert!(rt; is_so, "{call}");
         reported = now == Some(true);
     }
     assert!(rt; reported);
-    Ok(())
 }
 
 #[test]
-fn fails_with_its_source(rt: HostRuntime) -> Result<(), Fail> {
+fn fails_with_its_source(rt: HostRuntime) {
     for call in [1, 2, 3] {
-        let told = five_to(rt.alloc(), &[call], (11, &[]), None)?;
+        let told = five_to(&rt, rt.alloc(), &[call], (11, &[]), None);
         assert!(rt; told == (Err(SessionFault::Source), 0), "{call}");
     }
-    Ok(())
 }
 
 /// What is told of a session from a replica that was brought five items of another to an old copy of that.
-fn to_old_copy(
-    alloc: Global,
-) -> Result<(Result<(SessionEnd, usize, usize), SessionFault>, usize), Fail> {
-    let mut from = second_hand(alloc, 11, FIVE)?;
-    bring(alloc, &mut from, (11, &[]), None)
+fn to_old_copy(rt: &impl Abort, alloc: Global) -> Told {
+    let mut from = second_hand(rt, alloc, 11, FIVE);
+    let told = bring(rt, alloc, &mut from, 11, &[], None);
+    drop(from);
+    told
 }
 
 #[test]
-fn refuses_an_old_copy(rt: HostRuntime) -> Result<(), Fail> {
+fn refuses_an_old_copy(rt: HostRuntime) {
     let ahead = SessionFault::Ahead { tick: 5, clock: 0 };
-    assert!(rt; to_old_copy(rt.alloc())? == (Err(ahead), 0));
-    Ok(())
+    assert!(rt; to_old_copy(&rt, rt.alloc()) == (Err(ahead), 0));
 }
 
 #[test]
-fn refuses_one_replica(rt: HostRuntime) -> Result<(), Fail> {
-    let told = five_to(rt.alloc(), &[], (10, &[]), None)?;
+fn refuses_one_replica(rt: HostRuntime) {
+    let told = five_to(&rt, rt.alloc(), &[], (10, &[]), None);
     assert!(rt; told == (Err(SessionFault::SameReplica), 0));
-    Ok(())
 }
