@@ -5,6 +5,7 @@ use sfx_item::Value;
 use sfx_model::{ClashRule, Keep};
 use sfx_script::{Line, Options, parse_line};
 use std::alloc::Global;
+use std::process::Abort;
 
 /// What a line says: its first word, its first name, bytes and numbers.
 type Said<'a> = (&'a str, &'a str, &'a [u8], [u64; 3]);
@@ -83,117 +84,99 @@ fn said_of(line: &Line) -> Said {
     }
 }
 
-fn is_said(line: &Line, wanted: &Said) -> bool {
-    said_of(line) == *wanted
-}
-
 /// Whether the line's copy says this.
-fn copy_says(alloc: Global, line: &Line, wanted: &Said) -> bool {
-    let copy = line.copy(alloc);
-    match &copy {
-        Ok(copy) => is_said(copy, wanted),
-        Err(_) => false,
-    }
+fn copy_says(rt: &impl Abort, alloc: Global, line: &Line, wanted: &Said) -> bool {
+    let copy = line.copy(alloc).expect(rt, "a copy");
+    let is_said = said_of(&copy) == *wanted;
+    drop(copy);
+    is_said
 }
 
-/// Whether the text is read as a line that says this.
-fn says(alloc: Global, text: &str, wanted: &Said) -> bool {
-    let read = parse_line(alloc, text.as_bytes());
-    match &read {
-        Ok(line) => copy_says(alloc, line, wanted),
-        Err(_) => false,
-    }
+/// The text is to be read as a line that says this.
+fn expect_said(rt: &impl Abort, alloc: Global, text: &str, wanted: &Said) {
+    let line = parse_line(alloc, text.as_bytes()).expect(rt, "a line");
+    let is_said = copy_says(rt, alloc, &line, wanted);
+    assert!(rt; is_said, "{text}");
+    drop(line);
 }
 
-/// The first row, a text and what it says as a line, that is not so.
-fn wrong_row(alloc: Global, rows: &[(&str, Said)]) -> Option<usize> {
-    for (i, (text, wanted)) in rows.iter().enumerate() {
-        if !says(alloc, text, wanted) {
-            return Some(i);
-        }
-    }
-    None
-}
+/// Texts, and what they say as lines.
+const LINES: &[(&str, Said)] = &[
+    (
+        "units 18446744073709551615",
+        ("units", "", b"", [18446744073709551615, 0, 0]),
+    ),
+    (
+        "replica A_9 00000000-0000-0000-0000-00000000000a",
+        ("replica", "A_9", b"", [1, 0, 0]),
+    ),
+    (
+        "replica aaaaaaaaaaaaaaaaaaaaaaaaaaaaaaaa 0000000000000000000000000000000A",
+        (
+            "replica",
+            "aaaaaaaaaaaaaaaaaaaaaaaaaaaaaaaa",
+            b"",
+            [1, 0, 0],
+        ),
+    ),
+    (
+        "files A {00000000-0000-0000-0000-00000000000A}",
+        ("files", "A", b"", [1, 0, 0]),
+    ),
+    (
+        "files A urn:uuid:00000000-0000-0000-0000-00000000000a",
+        ("files", "A", b"", [1, 0, 0]),
+    ),
+    ("create A 1 2 3 4 5 6 7 -", ("create", "A", b"1", [8, 0, 0])),
+    (
+        "set A 3:00000000-0000-0000-0000-00000000000a 7 %2D",
+        ("set", "A", b"-", [3, 7, 0]),
+    ),
+    (
+        "delete A 3:00000000-0000-0000-0000-00000000000a",
+        ("delete", "A", b"", [1, 0, 0]),
+    ),
+    ("clean A", ("clean", "A", b"", [0, 0, 0])),
+    (
+        "clean A 3:00000000-0000-0000-0000-00000000000a",
+        ("clean", "A", b"", [1, 0, 0]),
+    ),
+    ("scan A", ("scan", "A", b"", [0, 0, 0])),
+    ("show A", ("show", "A", b"", [0, 0, 0])),
+    (
+        "knows A 3:00000000-0000-0000-0000-00000000000a 0 5@00000000-0000-0000-0000-00000000000a",
+        ("knows", "A", b"", [3, 0, 5]),
+    ),
+    ("equal A B", ("equal", "A", b"B", [0, 0, 0])),
+];
 
 #[test]
 fn reads_lines(rt: HostRuntime) {
-    let rows: &[(&str, Said)] = &[
-        (
-            "units 18446744073709551615",
-            ("units", "", b"", [18446744073709551615, 0, 0]),
-        ),
-        (
-            "replica A_9 00000000-0000-0000-0000-00000000000a",
-            ("replica", "A_9", b"", [1, 0, 0]),
-        ),
-        (
-            "replica aaaaaaaaaaaaaaaaaaaaaaaaaaaaaaaa 0000000000000000000000000000000A",
-            (
-                "replica",
-                "aaaaaaaaaaaaaaaaaaaaaaaaaaaaaaaa",
-                b"",
-                [1, 0, 0],
-            ),
-        ),
-        (
-            "files A {00000000-0000-0000-0000-00000000000A}",
-            ("files", "A", b"", [1, 0, 0]),
-        ),
-        (
-            "files A urn:uuid:00000000-0000-0000-0000-00000000000a",
-            ("files", "A", b"", [1, 0, 0]),
-        ),
-        ("create A 1 2 3 4 5 6 7 -", ("create", "A", b"1", [8, 0, 0])),
-        (
-            "set A 3:00000000-0000-0000-0000-00000000000a 7 %2D",
-            ("set", "A", b"-", [3, 7, 0]),
-        ),
-        (
-            "delete A 3:00000000-0000-0000-0000-00000000000a",
-            ("delete", "A", b"", [1, 0, 0]),
-        ),
-        ("clean A", ("clean", "A", b"", [0, 0, 0])),
-        (
-            "clean A 3:00000000-0000-0000-0000-00000000000a",
-            ("clean", "A", b"", [1, 0, 0]),
-        ),
-        ("scan A", ("scan", "A", b"", [0, 0, 0])),
-        ("show A", ("show", "A", b"", [0, 0, 0])),
-        (
-            "knows A 3:00000000-0000-0000-0000-00000000000a 0 5@00000000-0000-0000-0000-00000000000a",
-            ("knows", "A", b"", [3, 0, 5]),
-        ),
-        ("equal A B", ("equal", "A", b"B", [0, 0, 0])),
-    ];
-    assert_eq!(rt; wrong_row(rt.alloc(), rows), None);
+    for (text, wanted) in LINES {
+        expect_said(&rt, rt.alloc(), text, wanted);
+    }
 }
 
-/// The first row, a text and the one value that it creates an item with, that is not so.
-fn wrong_value(alloc: Global, rows: &[(&str, &[u8])]) -> Option<usize> {
-    for (i, (text, bytes)) in rows.iter().enumerate() {
-        let len = bytes.len() as u64;
-        if !says(alloc, text, &("create", "A", *bytes, [1, len, 0])) {
-            return Some(i);
-        }
-    }
-    None
-}
+/// Texts, and the one value that they create an item with.
+const VALUES: &[(&str, &[u8])] = &[
+    ("create A Buy%20milk%0A", b"Buy milk\n"),
+    ("create A -", b""),
+    ("create A %2D", b"-"),
+    ("create A --", b"--"),
+    ("create A %25", b"%"),
+    ("create A ~!%C3%A9", b"~!\xC3\xA9"),
+    ("create A %", b"%"),
+    ("create A a%2", b"a%2"),
+    ("create A %zz%41", b"%zzA"),
+    ("create A %c3", b"\xC3"),
+];
 
 #[test]
 fn reads_values(rt: HostRuntime) {
-    let rows: &[(&str, &[u8])] = &[
-        ("create A Buy%20milk%0A", b"Buy milk\n"),
-        ("create A -", b""),
-        ("create A %2D", b"-"),
-        ("create A --", b"--"),
-        ("create A %25", b"%"),
-        ("create A ~!%C3%A9", b"~!\xC3\xA9"),
-        ("create A %", b"%"),
-        ("create A a%2", b"a%2"),
-        ("create A %zz%41", b"%zzA"),
-        ("create A %c3", b"\xC3"),
-    ];
-    assert_eq!(rt; wrong_value(rt.alloc(), rows), None);
+    for &(text, bytes) in VALUES {
+        let len = bytes.len() as u64;
+        expect_said(&rt, rt.alloc(), text, &("create", "A", bytes, [1, len, 0]));
+    }
 }
 
 /// A session: how conflicts and clashes are settled, the entries of a batch and of a group, those after which
@@ -225,69 +208,62 @@ fn is_session(line: &Line, wanted: &Session) -> bool {
     }
 }
 
-/// Whether the text is read as the session from `A`.
-fn runs(alloc: Global, text: &str, wanted: &Session) -> bool {
-    let read = parse_line(alloc, text.as_bytes());
-    match &read {
-        Ok(line) => is_session(line, wanted),
-        Err(_) => false,
-    }
+/// The text is to be read as the session from `A`.
+fn expect_session(rt: &impl Abort, alloc: Global, text: &str, wanted: &Session) {
+    let line = parse_line(alloc, text.as_bytes()).expect(rt, "a line");
+    let is_session = is_session(&line, wanted);
+    assert!(rt; is_session, "{text}");
+    drop(line);
 }
 
-/// The first row, a text and the session that it runs, that is not so.
-fn wrong_session(alloc: Global, rows: &[(&str, Session)]) -> Option<usize> {
-    for (i, (text, wanted)) in rows.iter().enumerate() {
-        if !runs(alloc, text, wanted) {
-            return Some(i);
-        }
-    }
-    None
-}
+/// Texts, and the sessions that they run.
+const SESSIONS: &[(&str, Session)] = &[
+    (
+        "sync A B keep=source clash=source",
+        (Keep::Source, ClashRule::Source, 100, 1, None, false),
+    ),
+    (
+        "sync A B keep=destination clash=destination trace",
+        (
+            Keep::Destination,
+            ClashRule::Destination,
+            100,
+            1,
+            None,
+            true,
+        ),
+    ),
+    (
+        "sync A B keep=merge clash=rename-source batch=10000",
+        (Keep::Merge, ClashRule::RenameSource, 10000, 1, None, false),
+    ),
+    (
+        "sync A B keep=skip clash=rename-destination group=2 cut=1",
+        (
+            Keep::Skip,
+            ClashRule::RenameDestination,
+            100,
+            2,
+            Some(1),
+            false,
+        ),
+    ),
+    (
+        "sync A B keep=skip clash=skip batch=1 group=10000 cut=1000000000 trace",
+        (
+            Keep::Skip,
+            ClashRule::Skip,
+            1,
+            10000,
+            Some(1_000_000_000),
+            true,
+        ),
+    ),
+];
 
 #[test]
 fn reads_options(rt: HostRuntime) {
-    let rows: &[(&str, Session)] = &[
-        (
-            "sync A B keep=source clash=source",
-            (Keep::Source, ClashRule::Source, 100, 1, None, false),
-        ),
-        (
-            "sync A B keep=destination clash=destination trace",
-            (
-                Keep::Destination,
-                ClashRule::Destination,
-                100,
-                1,
-                None,
-                true,
-            ),
-        ),
-        (
-            "sync A B keep=merge clash=rename-source batch=10000",
-            (Keep::Merge, ClashRule::RenameSource, 10000, 1, None, false),
-        ),
-        (
-            "sync A B keep=skip clash=rename-destination group=2 cut=1",
-            (
-                Keep::Skip,
-                ClashRule::RenameDestination,
-                100,
-                2,
-                Some(1),
-                false,
-            ),
-        ),
-        (
-            "sync A B keep=skip clash=skip batch=1 group=10000 cut=1000000000 trace",
-            (
-                Keep::Skip,
-                ClashRule::Skip,
-                1,
-                10000,
-                Some(1_000_000_000),
-                true,
-            ),
-        ),
-    ];
-    assert_eq!(rt; wrong_session(rt.alloc(), rows), None);
+    for (text, wanted) in SESSIONS {
+        expect_session(&rt, rt.alloc(), text, wanted);
+    }
 }
