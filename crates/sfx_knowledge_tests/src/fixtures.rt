@@ -1,6 +1,6 @@
 //! Ids, versions and clock vectors, which the tests make.
 
-use sfx_ids::{ItemId, Memory, ReplicaId, Tick, UnitId, Version};
+use sfx_ids::{ItemId, ReplicaId, Tick, UnitId, Version};
 use sfx_vector::ClockVector;
 use std::alloc::Global;
 use std::process::Abort;
@@ -32,14 +32,11 @@ pub fn unit<const U: usize>(rt: &impl Abort, number: usize) -> UnitId<U> {
 }
 
 /// The empty vector, raised to these ticks of replicas in turn.
-pub fn raised(
-    rt: &impl Abort,
-    alloc: Global,
-    ticks: &[(u128, u64)],
-) -> Result<ClockVector, Memory> {
+pub fn raised(rt: &impl Abort, alloc: Global, ticks: &[(u128, u64)]) -> ClockVector {
     let mut vector = ClockVector::new(alloc);
-    for (replica, tick) in ticks {
-        vector.raise(&version(rt, *replica, *tick))?;
+    for &(replica, tick) in ticks {
+        let version = version(rt, replica, tick);
+        vector.raise(&version).expect(rt, "memory");
     }
-    Ok(vector)
+    vector
 }

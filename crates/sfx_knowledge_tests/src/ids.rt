@@ -2,37 +2,34 @@
 
 use crate::fixtures::{A, item_of};
 use sfx_ids::{
-    Cut, ItemId, Memory, ReplicaId, in_range, parse_cut, parse_item, parse_replica,
-    parse_replica_exact, parse_version, write_cut, write_item, write_replica, write_version,
+    Cut, ItemId, ReplicaId, in_range, parse_cut, parse_item, parse_replica, parse_replica_exact,
+    parse_version, write_cut, write_item, write_replica, write_version,
 };
 use std::alloc::Global;
 use std::process::Abort;
 
-/// Texts of the replica `a`, and whether each is its exact text.
-const TEXTS_OF_A: [(&str, bool); 5] = [
-    ("00000000-0000-0000-0000-00000000000a", true),
-    ("0000000000000000000000000000000A", false),
-    ("{00000000-0000-0000-0000-00000000000a}", false),
-    ("urn:uuid:00000000-0000-0000-0000-00000000000a", false),
-    ("00000000-0000-0000-0000-00000000000A", false),
+/// Texts, whether each is one of the replica `a`, and whether it is its exact text.
+const REPLICAS: &[(&str, bool, bool)] = &[
+    ("00000000-0000-0000-0000-00000000000a", true, true),
+    ("0000000000000000000000000000000A", true, false),
+    ("{00000000-0000-0000-0000-00000000000a}", true, false),
+    ("urn:uuid:00000000-0000-0000-0000-00000000000a", true, false),
+    ("00000000-0000-0000-0000-00000000000A", true, false),
+    ("a", false, false),
 ];
 
-/// The first row of those that is not so.
-fn wrong_text_of_a() -> Option<usize> {
-    let a = Some(ReplicaId::new(A));
-    for (i, (text, is_exact)) in TEXTS_OF_A.iter().enumerate() {
-        let exact = if *is_exact { a } else { None };
-        if parse_replica(text) != a || parse_replica_exact(text) != exact {
-            return Some(i);
-        }
-    }
-    None
+/// The replica `a`, or none.
+fn a_if(is_a: bool) -> Option<ReplicaId> {
+    if is_a { Some(ReplicaId::new(A)) } else { None }
 }
 
 #[test]
 fn reads_replicas(rt: HostRuntime) {
-    assert_eq!(rt; wrong_text_of_a(), None);
-    assert!(rt; parse_replica("a").is_none());
+    for &(text, is_read, is_exact) in REPLICAS {
+        let read = parse_replica(text) == a_if(is_read);
+        let exact = parse_replica_exact(text) == a_if(is_exact);
+        assert!(rt; read && exact, "{text}");
+    }
 }
 
 /// Where the text goes wrong as an item's.
@@ -43,29 +40,24 @@ fn item_fault(text: &str) -> Option<usize> {
     }
 }
 
-/// The first row, a text and where it goes wrong as an item's, that is not so.
-fn wrong_item_fault(rows: &[(&str, usize)]) -> Option<usize> {
-    for (i, (text, at)) in rows.iter().enumerate() {
-        if item_fault(text) != Some(*at) {
-            return Some(i);
-        }
-    }
-    None
-}
+/// Texts, and where each goes wrong as an item's.
+const ITEM_FAULTS: &[(&str, usize)] = &[
+    ("", 0),
+    ("01:00000000-0000-0000-0000-00000000000a", 0),
+    ("12", 2),
+    ("1@", 1),
+    ("9223372036854775808:", 18),
+    ("1:00000000_", 10),
+    ("1:00000000-0000-0000-0000-00000000000A", 37),
+    ("1:00000000-0000-0000-0000-00000000000a ", 38),
+];
 
 #[test]
 fn says_where_an_item_goes_wrong(rt: HostRuntime) {
-    let wrong = wrong_item_fault(&[
-        ("", 0),
-        ("01:00000000-0000-0000-0000-00000000000a", 0),
-        ("12", 2),
-        ("1@", 1),
-        ("9223372036854775808:", 18),
-        ("1:00000000_", 10),
-        ("1:00000000-0000-0000-0000-00000000000A", 37),
-        ("1:00000000-0000-0000-0000-00000000000a ", 38),
-    ]);
-    assert_eq!(rt; wrong, None);
+    for &(text, at) in ITEM_FAULTS {
+        let is_so = item_fault(text) == Some(at);
+        assert!(rt; is_so, "{text}");
+    }
     let item = parse_item("1:00000000-0000-0000-0000-00000000000a");
     assert!(rt; item == Ok(item_of(&rt, 1, A)));
 }
@@ -78,52 +70,45 @@ fn version_fault(text: &str) -> Option<usize> {
     }
 }
 
-/// The first row, a text and where it goes wrong as a version's, that is not so.
-fn wrong_version_fault(rows: &[(&str, usize)]) -> Option<usize> {
-    for (i, (text, at)) in rows.iter().enumerate() {
-        if version_fault(text) != Some(*at) {
-            return Some(i);
-        }
-    }
-    None
-}
+/// Texts, and where each goes wrong as a version's.
+const VERSION_FAULTS: &[(&str, usize)] = &[
+    ("12", 2),
+    ("1:", 1),
+    ("9223372036854775808@", 18),
+    ("-1@", 0),
+];
 
 #[test]
 fn says_where_a_version_goes_wrong(rt: HostRuntime) {
-    let wrong = wrong_version_fault(&[
-        ("12", 2),
-        ("1:", 1),
-        ("9223372036854775808@", 18),
-        ("-1@", 0),
-    ]);
-    assert_eq!(rt; wrong, None);
+    for &(text, at) in VERSION_FAULTS {
+        let is_so = version_fault(text) == Some(at);
+        assert!(rt; is_so, "{text}");
+    }
     let version = parse_version("9223372036854775807@00000000-0000-0000-0000-00000000000a");
     assert!(rt; version == Ok(item_of(&rt, 9223372036854775807, A).creation()));
 }
 
-/// Appends the texts of the item, of its replica and version, and of cuts.
-fn write_all(out: &mut Vec<u8>, one: &ItemId) -> Result<(), Memory> {
-    write_replica(out, &one.replica)?;
-    write_item(out, one)?;
-    write_version(out, &one.creation())?;
+/// The texts of the item, of its replica and version, and of cuts.
+fn written(rt: &impl Abort, alloc: Global, one: &ItemId) -> Vec<u8> {
+    let mut out = Vec::new(alloc);
+    write_replica(&mut out, &one.replica).expect(rt, "memory");
+    write_item(&mut out, one).expect(rt, "memory");
+    write_version(&mut out, &one.creation()).expect(rt, "memory");
     for cut in [Cut::Start, Cut::At(*one), Cut::After(*one), Cut::End] {
-        write_cut(out, &cut)?;
+        write_cut(&mut out, &cut).expect(rt, "memory");
     }
-    Ok(())
+    out
 }
 
-/// Whether this is what is written for the item.
-fn writes(alloc: Global, one: &ItemId, text: &str) -> Result<bool, Memory> {
-    let mut out = Vec::new(alloc);
-    write_all(&mut out, one)?;
-    Ok(out.as_slice() == text.as_bytes())
-}
+/// The replica, the item, the version and the cuts in a row.
+const WRITTEN: &str =
+    "00000000-0000-0000-0000-00000000000a1:00000000-0000-0000-0000-00000000000a1@00000000-0000-0000-0000-00000000000astartat 1:00000000-0000-0000-0000-00000000000aafter 1:00000000-0000-0000-0000-00000000000aend";
 
 #[test]
 fn writes_texts(rt: HostRuntime) {
-    let text =
-        "00000000-0000-0000-0000-00000000000a1:00000000-0000-0000-0000-00000000000a1@00000000-0000-0000-0000-00000000000astartat 1:00000000-0000-0000-0000-00000000000aafter 1:00000000-0000-0000-0000-00000000000aend";
-    assert!(rt; writes(rt.alloc(), &item_of(&rt, 1, A), text) == Ok(true));
+    let out = written(&rt, rt.alloc(), &item_of(&rt, 1, A));
+    assert!(rt; out.as_slice() == WRITTEN.as_bytes());
+    drop(out);
 }
 
 /// Whether texts of cuts in order are read as cuts in order.
@@ -155,5 +140,5 @@ fn in_ranges(one: &ItemId) -> (bool, bool) {
 
 #[test]
 fn a_range_begins_at_its_first_cut(rt: HostRuntime) {
-    assert_eq!(rt; in_ranges(&item_of(&rt, 1, A)), (true, false));
+    assert!(rt; in_ranges(&item_of(&rt, 1, A)) == (true, false));
 }

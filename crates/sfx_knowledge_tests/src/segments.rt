@@ -44,12 +44,13 @@ fn after(rt: &impl Abort, tick: u64) -> Cut {
 }
 
 /// The height 1 at all places, but for ranges that are set to other metres in turn.
-fn land(alloc: Global, ranges: &[(Cut, Cut, u8)]) -> Result<Segments<Height>, Memory> {
-    let mut land = Segments::new(alloc, Height { metres: 1 })?;
+fn land(rt: &impl Abort, alloc: Global, ranges: &[(Cut, Cut, u8)]) -> Segments<Height> {
+    let mut land = Segments::new(alloc, Height { metres: 1 }).expect(rt, "memory");
     for (lo, hi, metres) in ranges {
-        land.set_range(lo, hi, &Height { metres: *metres })?;
+        let height = Height { metres: *metres };
+        land.set_range(lo, hi, &height).expect(rt, "memory");
     }
-    Ok(land)
+    land
 }
 
 /// Whether the segments begin at these places, with these metres.
@@ -65,25 +66,17 @@ fn are(land: &Segments<Height>, wanted: &[(Cut, u8)]) -> bool {
     true
 }
 
-/// Ranges that are set to metres in turn, and the segments that they make.
-type Row<'a> = (&'a [(Cut, Cut, u8)], &'a [(Cut, u8)]);
-
-fn is_so(alloc: Global, row: &Row) -> Result<bool, Memory> {
-    Ok(are(&land(alloc, row.0)?, row.1))
-}
-
-/// The first row that is not so.
-fn wrong_row(alloc: Global, rows: &[Row]) -> Result<Option<usize>, Memory> {
-    for (i, row) in rows.iter().enumerate() {
-        if !is_so(alloc, row)? {
-            return Ok(Some(i));
-        }
-    }
-    Ok(None)
+/// Whether ranges that are set in turn make the segments.
+fn makes(rt: &impl Abort, alloc: Global, ranges: &[(Cut, Cut, u8)], wanted: &[(Cut, u8)]) -> bool {
+    let land = land(rt, alloc, ranges);
+    let are = are(&land, wanted);
+    drop(land);
+    are
 }
 
 #[test]
 fn sets_ranges(rt: HostRuntime) {
+    let alloc = rt.alloc();
     let flat = [(Cut::Start, 1)];
     let steps = [(Cut::Start, 1), (at(&rt, 3), 4), (after(&rt, 5), 1)];
     let cliff = [(Cut::Start, 9), (at(&rt, 1), 1)];
@@ -94,13 +87,10 @@ fn sets_ranges(rt: HostRuntime) {
         (Cut::End, Cut::Start, 9),
     ];
     let front = [(Cut::Start, at(&rt, 1), 9)];
-    let rows: [Row; 4] = [
-        (&[], &flat),
-        (&hill, &steps),
-        (&levelled, &flat),
-        (&front, &cliff),
-    ];
-    assert_eq!(rt; wrong_row(rt.alloc(), &rows), Ok(None));
+    assert!(rt; makes(&rt, alloc, &[], &flat));
+    assert!(rt; makes(&rt, alloc, &hill, &steps));
+    assert!(rt; makes(&rt, alloc, &levelled, &flat));
+    assert!(rt; makes(&rt, alloc, &front, &cliff));
 }
 
 /// The metres at the start, at the item and behind it.
@@ -114,54 +104,43 @@ fn heights(land: &Segments<Height>, id: &ItemId) -> (u8, u8, u8) {
 
 /// The heights around the item in the land of these ranges, and whether the height is 1 everywhere.
 fn survey(
+    rt: &impl Abort,
     alloc: Global,
     ranges: &[(Cut, Cut, u8)],
     id: &ItemId,
-) -> Result<((u8, u8, u8), bool), Memory> {
-    let land = land(alloc, ranges)?;
+) -> ((u8, u8, u8), bool) {
+    let land = land(rt, alloc, ranges);
     let is_flat = land.all(|height| height.metres == 1);
-    Ok((heights(&land, id), is_flat))
+    let heights = heights(&land, id);
+    drop(land);
+    (heights, is_flat)
 }
 
 #[test]
 fn gives_every_place_a_value(rt: HostRuntime) {
     let fifth = item(&rt, 5);
+    assert!(rt; survey(&rt, rt.alloc(), &[], &fifth) == ((1, 1, 1), true));
     let hill = [(at(&rt, 3), after(&rt, 5), 4)];
-    assert!(rt; survey(rt.alloc(), &[], &fifth) == Ok(((1, 1, 1), true)));
-    assert!(rt; survey(rt.alloc(), &hill, &fifth) == Ok(((1, 4, 1), false)));
+    assert!(rt; survey(&rt, rt.alloc(), &hill, &fifth) == ((1, 4, 1), false));
 }
 
-/// Whether the greater heights of both make these segments.
-fn combine(
-    alloc: Global,
-    hill: &Segments<Height>,
-    lake: &Segments<Height>,
-    wanted: &[(Cut, u8)],
-) -> Result<bool, Memory> {
-    let greater = hill.zip_with(alloc, lake, &Greater)?;
-    Ok(are(&greater, wanted))
-}
-
-/// Combines a hill with its copy that has the height 2 before this place.
-fn combine_copy(
-    alloc: Global,
-    hill: &Segments<Height>,
-    shore: &Cut,
-    wanted: &[(Cut, u8)],
-) -> Result<bool, Memory> {
-    let mut lake = hill.copy(alloc)?;
-    lake.set_range(&Cut::Start, shore, &Height { metres: 2 })?;
-    combine(alloc, hill, &lake, wanted)
-}
-
-/// Combines the hill from `At(3)` up to `After(5)` with a lake up to `At(4)`.
-fn combine_hill(rt: &impl Abort, alloc: Global, wanted: &[(Cut, u8)]) -> Result<bool, Memory> {
-    let hill = land(alloc, &[(at(rt, 3), after(rt, 5), 4)])?;
-    combine_copy(alloc, &hill, &at(rt, 4), wanted)
+/// Whether the greater heights of the hill from `At(3)` up to `After(5)` and of its copy with a lake up to
+/// `At(4)`, of the height 2, make these segments.
+fn combine_hill(rt: &impl Abort, alloc: Global, wanted: &[(Cut, u8)]) -> bool {
+    let hill = land(rt, alloc, &[(at(rt, 3), after(rt, 5), 4)]);
+    let mut lake = hill.copy(alloc).expect(rt, "a copy");
+    let set = lake.set_range(&Cut::Start, &at(rt, 4), &Height { metres: 2 });
+    set.expect(rt, "memory");
+    let greater = hill.zip_with(alloc, &lake, &Greater).expect(rt, "memory");
+    drop(lake);
+    drop(hill);
+    let are = are(&greater, wanted);
+    drop(greater);
+    are
 }
 
 #[test]
 fn combines_two_maps(rt: HostRuntime) {
     let wanted = [(Cut::Start, 2), (at(&rt, 3), 4), (after(&rt, 5), 1)];
-    assert!(rt; combine_hill(&rt, rt.alloc(), &wanted) == Ok(true));
+    assert!(rt; combine_hill(&rt, rt.alloc(), &wanted));
 }

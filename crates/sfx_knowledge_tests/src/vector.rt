@@ -1,10 +1,8 @@
 //! Clock vectors on literals.
 
 use crate::fixtures::{A, B, raised, version};
-use sfx_ids::{Memory, Part, ReplicaId};
+use sfx_ids::{Part, ReplicaId};
 use sfx_vector::ClockVector;
-use std::alloc::Global;
-use std::process::Abort;
 
 /// A third replica.
 const C: u128 = 12;
@@ -19,48 +17,35 @@ fn facts(joined: &ClockVector, part: &ClockVector) -> Joined {
     (len, second, part.within(joined), joined.within(part))
 }
 
-/// Joins a vector with `b=9 a=3`.
-fn join(rt: &impl Abort, alloc: Global, vector: &mut ClockVector) -> Result<Joined, Memory> {
-    let part = raised(rt, alloc, &[(B, 9), (A, 3)])?;
-    vector.join(&part)?;
-    Ok(facts(vector, &part))
-}
-
-fn join_two(rt: &impl Abort, alloc: Global) -> Result<Joined, Memory> {
-    let mut vector = raised(rt, alloc, &[(A, 4), (C, 1)])?;
-    join(rt, alloc, &mut vector)
-}
-
+/// Joins `a=4 c=1` with `b=9 a=3`.
 #[test]
 fn raises_and_joins(rt: HostRuntime) {
-    assert_eq!(rt; join_two(&rt, rt.alloc()), Ok((3, 9, true, false)));
+    let mut vector = raised(&rt, rt.alloc(), &[(A, 4), (C, 1)]);
+    let part = raised(&rt, rt.alloc(), &[(B, 9), (A, 3)]);
+    vector.join(&part).expect(&rt, "memory");
+    let is_so = facts(&vector, &part) == (3, 9, true, false);
+    drop(part);
+    drop(vector);
+    assert!(rt; is_so);
 }
 
-/// The tick of `a` once it is taken away, and whether its first version is still contained.
-fn without_a(rt: &impl Abort, alloc: Global) -> Result<(u64, bool), Memory> {
-    let a = ReplicaId::new(A);
-    let mut vector = raised(rt, alloc, &[(A, 4), (B, 9), (C, 1)])?;
-    vector.without(&a);
-    Ok((vector.get(&a), vector.contains(&version(rt, A, 1))))
-}
-
+/// Once `a` is taken away it has no tick, and its first version is not contained.
 #[test]
 fn takes_a_replica_away(rt: HostRuntime) {
-    assert_eq!(rt; without_a(&rt, rt.alloc()), Ok((0, false)));
-}
-
-/// Whether the vector is the same as its copy.
-fn is_copied(alloc: Global, vector: &ClockVector) -> Result<bool, Memory> {
-    let copy = Part::copy(vector, alloc)?;
-    Ok(Part::same(vector, &copy))
-}
-
-fn copy_one(rt: &impl Abort, alloc: Global) -> Result<bool, Memory> {
-    let vector = raised(rt, alloc, &[(A, 4)])?;
-    is_copied(alloc, &vector)
+    let a = ReplicaId::new(A);
+    let mut vector = raised(&rt, rt.alloc(), &[(A, 4), (B, 9), (C, 1)]);
+    vector.without(&a);
+    let (tick, is_known) = (vector.get(&a), vector.contains(&version(&rt, A, 1)));
+    drop(vector);
+    assert!(rt; tick == 0 && !is_known);
 }
 
 #[test]
 fn copies(rt: HostRuntime) {
-    assert!(rt; copy_one(&rt, rt.alloc()) == Ok(true));
+    let vector = raised(&rt, rt.alloc(), &[(A, 4)]);
+    let copy = Part::copy(&vector, rt.alloc()).expect(&rt, "a copy");
+    let is_same = Part::same(&vector, &copy);
+    drop(copy);
+    drop(vector);
+    assert!(rt; is_same);
 }
