@@ -39,26 +39,18 @@ fn burying(alloc: Global, replica: &Replica<2>, id: &ItemId) -> Result<Commit<2>
     Ok(commit)
 }
 
-/// Installs a commit that drops the item.
-fn install_drop(rt: &impl Abort, alloc: Global, replica: &mut Replica<2>, id: &ItemId) {
-    let commit = dropping(alloc, replica, id).expect(rt, "a commit");
-    replica.install(&commit).expect(rt, "memory");
-    drop(commit);
-}
-
 /// A pair is to have its second item alone once a drop of the first is installed.
-fn expect_dropped(rt: &impl Abort, alloc: Global, replica: &mut Replica<2>) {
-    install_drop(rt, alloc, replica, &item_id(rt, 1, 10));
-    assert!(rt; counts(replica) == (2, 1));
-    assert!(rt; replica.item(&item_id(rt, 2, 10)).is_some());
-}
-
 #[test]
 fn installs_drops(rt: HostRuntime) {
-    let alloc = rt.alloc();
-    let mut replica = pair(&rt, alloc, 10);
-    expect_dropped(&rt, alloc, &mut replica);
+    let mut replica = pair(&rt, rt.alloc(), 10);
+    let commit = dropping(rt.alloc(), &replica, &item_id(&rt, 1, 10)).expect(&rt, "a commit");
+    replica.install(&commit).expect(&rt, "memory");
+    drop(commit);
+    let counts = counts(&replica);
+    let is_there = replica.item(&item_id(&rt, 2, 10)).is_some();
     drop(replica);
+    assert!(rt; counts == (2, 1));
+    assert!(rt; is_there);
 }
 
 /// Installs a copy of a commit that puts a tombstone in the place of the item.
@@ -83,19 +75,16 @@ fn knows_as_pair(rt: &impl Abort, alloc: Global, replica: &Replica<2>) -> bool {
 }
 
 /// A pair is to have other live items but the same knowledge once a tombstone of the first is installed.
-fn expect_buried(rt: &impl Abort, alloc: Global, replica: &mut Replica<2>) {
-    install_put(rt, alloc, replica, &item_id(rt, 1, 10));
-    assert!(rt; counts(replica) == (2, 2));
-    assert!(rt; !is_pair(rt, alloc, replica));
-    assert!(rt; knows_as_pair(rt, alloc, replica));
-}
-
 #[test]
 fn installs_puts(rt: HostRuntime) {
-    let alloc = rt.alloc();
-    let mut replica = pair(&rt, alloc, 10);
-    expect_buried(&rt, alloc, &mut replica);
+    let mut replica = pair(&rt, rt.alloc(), 10);
+    install_put(&rt, rt.alloc(), &mut replica, &item_id(&rt, 1, 10));
+    let counts = counts(&replica);
+    let is_pair = is_pair(&rt, rt.alloc(), &replica);
+    let knows_as_pair = knows_as_pair(&rt, rt.alloc(), &replica);
     drop(replica);
+    assert!(rt; counts == (2, 2));
+    assert!(rt; knows_as_pair && !is_pair);
 }
 
 /// A provider of a replica that created two items.
@@ -218,22 +207,6 @@ fn left(provider: MemoryProvider<2>) -> usize {
     count
 }
 
-/// The answer of a provider of the replica to the commit, and how many items it has then.
-fn commit_to(
-    rt: &impl Abort,
-    alloc: Global,
-    replica: Replica<2>,
-    fails: &[u64],
-    commit: &Commit<2>,
-) -> (usize, Result<(), ProviderFault>)
-    requires { Fits 2 commit.now replica }
-{
-    let fails = Vec::from_slice(alloc, fails).expect(rt, "calls");
-    let mut provider = MemoryProvider::new(replica, fails);
-    let answer = provider.commit(commit);
-    (left(provider), answer)
-}
-
 /// How many items a provider of a pair has after a commit that drops one, and its answer.
 fn commit_one(
     rt: &impl Abort,
@@ -243,9 +216,11 @@ fn commit_one(
 ) -> (usize, Result<(), ProviderFault>) {
     let replica = pair(rt, alloc, 10);
     let commit = dropping(alloc, &replica, id).expect(rt, "a commit");
-    let told = commit_to(rt, alloc, replica, fails, &commit);
+    let fails = Vec::from_slice(alloc, fails).expect(rt, "calls");
+    let mut provider = MemoryProvider::new(replica, fails);
+    let answer = provider.commit(&commit);
     drop(commit);
-    told
+    (left(provider), answer)
 }
 
 /// The answer where a call fails.
@@ -310,22 +285,6 @@ fn two_commits(
     Ok(commits)
 }
 
-/// The answer of a provider of the replica to the commits, and how many items it has then.
-fn commit_all_to(
-    rt: &impl Abort,
-    alloc: Global,
-    replica: Replica<2>,
-    fails: &[u64],
-    commits: &[Commit<2>],
-) -> (usize, Result<(), ProviderFault>)
-    requires { AllFit 2 commits.now replica }
-{
-    let fails = Vec::from_slice(alloc, fails).expect(rt, "calls");
-    let mut provider = MemoryProvider::new(replica, fails);
-    let answer = commit_all(&mut provider, commits);
-    (left(provider), answer)
-}
-
 /// How many items a provider of a pair has after two commits, and its answer.
 fn commit_two(
     rt: &impl Abort,
@@ -335,9 +294,11 @@ fn commit_two(
 ) -> (usize, Result<(), ProviderFault>) {
     let replica = pair(rt, alloc, 10);
     let commits = two_commits(alloc, &replica, id).expect(rt, "commits");
-    let told = commit_all_to(rt, alloc, replica, fails, commits.as_slice());
+    let fails = Vec::from_slice(alloc, fails).expect(rt, "calls");
+    let mut provider = MemoryProvider::new(replica, fails);
+    let answer = commit_all(&mut provider, commits.as_slice());
     drop(commits);
-    told
+    (left(provider), answer)
 }
 
 /// The calls that fail, how many items there are after two commits, and the answer to them.

@@ -95,19 +95,16 @@ const FOUND: &[(u64, u128, (u64, u64, u64))] = &[
 ];
 
 /// A pair is to find its items by their ids, and by any place before them.
-fn expect_found(rt: &impl Abort, replica: &Replica<2>) {
-    for &(count, maker, told) in FOUND {
-        let is_so = found(replica, &item_id(rt, count, maker)) == told;
-        assert!(rt; is_so, "{count} {maker}");
-    }
-    assert!(rt; found_from_ends(replica) == (1, 0));
-}
-
 #[test]
 fn finds_items(rt: HostRuntime) {
     let replica = pair(&rt, rt.alloc(), 10);
-    expect_found(&rt, &replica);
+    for &(count, maker, told) in FOUND {
+        let is_so = found(&replica, &item_id(&rt, count, maker)) == told;
+        assert!(rt; is_so, "{count}");
+    }
+    let ends = found_from_ends(&replica);
     drop(replica);
+    assert!(rt; ends == (1, 0));
 }
 
 /// The tick of the id at this place, 0 for none, and for one of another replica.
@@ -157,18 +154,14 @@ const CLASHING: &[Clashing] = &[
 ];
 
 /// The replica is to list those that clash but the excepted one.
-fn expect_clashing(rt: &impl Abort, alloc: Global, replica: &Replica<1>) {
-    for &(text, except, told) in CLASHING {
-        let is_so = clashing(rt, alloc, replica, text, excepted(rt, except)) == told;
-        assert!(rt; is_so, "{text}");
-    }
-}
-
 #[test]
 fn lists_clashing_items(rt: HostRuntime) {
-    let alloc = rt.alloc();
-    let replica = with_names(&rt, alloc, &["dir/f", "dir2", "dir/g"]);
-    expect_clashing(&rt, alloc, &replica);
+    let replica = with_names(&rt, rt.alloc(), &["dir/f", "dir2", "dir/g"]);
+    for &(text, except, told) in CLASHING {
+        let except = excepted(&rt, except);
+        let is_so = clashing(&rt, rt.alloc(), &replica, text, except) == told;
+        assert!(rt; is_so, "{text}");
+    }
     drop(replica);
 }
 
@@ -225,27 +218,18 @@ fn compared(copy: &Replica<2>, replica: &Replica<2>) -> (bool, bool, (u64, u64))
     (are_alike(copy, replica), has_id, counts(copy))
 }
 
-/// Copies the replica and changes it: the copy against the replica before that, and its counts afterwards.
-fn copied(
-    rt: &impl Abort,
-    alloc: Global,
-    replica: &mut Replica<2>,
-) -> ((bool, bool, (u64, u64)), (u64, u64)) {
-    let copy = replica.copy(alloc).expect(rt, "a copy");
-    let told = compared(&copy, replica);
-    create_two(rt, alloc, replica, "d", "").expect(rt, "an item");
-    let counts = counts(&copy);
-    drop(copy);
-    (told, counts)
-}
-
+/// A copy is to stay as it is where the replica is changed.
 #[test]
 fn copies_a_replica(rt: HostRuntime) {
-    let alloc = rt.alloc();
-    let mut replica = pair(&rt, alloc, 10);
-    let told = ((true, true, (2, 2)), (2, 2));
-    assert!(rt; copied(&rt, alloc, &mut replica) == told);
+    let mut replica = pair(&rt, rt.alloc(), 10);
+    let copy = replica.copy(rt.alloc()).expect(&rt, "a copy");
+    let told = compared(&copy, &replica);
+    create_two(&rt, rt.alloc(), &mut replica, "d", "").expect(&rt, "an item");
     drop(replica);
+    let counts = counts(&copy);
+    drop(copy);
+    assert!(rt; told == (true, true, (2, 2)));
+    assert!(rt; counts == (2, 2));
 }
 
 /// How many items the replica lists as unseen, and the tick of the first.
@@ -286,27 +270,23 @@ fn unseen_to_itself(rt: &impl Abort, alloc: Global, replica: &Replica<2>) -> (us
 }
 
 /// A pair is to list its items from the cut on, at most as many as the limit says.
-fn expect_unseen(rt: &impl Abort, alloc: Global, replica: &Replica<2>) {
-    for (from, limit, count, item) in [
-        (Cut::Start, 9, 2, 1),
-        (Cut::Start, 1, 1, 1),
-        (Cut::Start, 0, 0, 0),
-        (Cut::At(item_id(rt, 1, 10)), 9, 2, 1),
-        (Cut::After(item_id(rt, 1, 10)), 9, 1, 2),
-        (Cut::End, 9, 0, 0),
-    ] {
-        let told = unseen_at_first(rt, alloc, replica, &from, limit);
-        assert!(rt; told == (count, item), "{limit}");
-    }
-    assert!(rt; unseen_to_itself(rt, alloc, replica) == (0, 0));
-}
-
 #[test]
 fn lists_unseen_items(rt: HostRuntime) {
-    let alloc = rt.alloc();
-    let replica = pair(&rt, alloc, 10);
-    expect_unseen(&rt, alloc, &replica);
+    let replica = pair(&rt, rt.alloc(), 10);
+    for (from, limit, told) in [
+        (Cut::Start, 9, (2, 1)),
+        (Cut::Start, 1, (1, 1)),
+        (Cut::Start, 0, (0, 0)),
+        (Cut::At(item_id(&rt, 1, 10)), 9, (2, 1)),
+        (Cut::After(item_id(&rt, 1, 10)), 9, (1, 2)),
+        (Cut::End, 9, (0, 0)),
+    ] {
+        let is_so = unseen_at_first(&rt, rt.alloc(), &replica, &from, limit) == told;
+        assert!(rt; is_so, "{limit}");
+    }
+    let unseen = unseen_to_itself(&rt, rt.alloc(), &replica);
     drop(replica);
+    assert!(rt; unseen == (0, 0));
 }
 
 /// What a pair that wrote to a unit of the item lists as unseen to what it knew before.

@@ -61,23 +61,20 @@ fn created(
 const NAMES: &[(&str, u64)] = &[("dir/f", 1), ("dir2", 2), ("di", 3), ("dir/g", 4)];
 
 /// A new replica is to begin with nothing, and to create items at the ticks from 1 on.
-fn expect_created(rt: &impl Abort, alloc: Global, replica: &mut Replica<1>) {
-    assert!(rt; told_of(replica) == (ReplicaId::new(10), (0, 0), 0));
-    let unit = unit::<1>(rt, 0);
-    for &(name, count) in NAMES {
-        let told = (item_id(rt, count, 10), (count, count), true);
-        let is_so = created(rt, alloc, replica, unit, name) == told;
-        assert!(rt; is_so, "{name}");
-    }
-    assert!(rt; stores_nothing(rt, alloc, replica));
-}
-
 #[test]
 fn creates_items(rt: HostRuntime) {
-    let alloc = rt.alloc();
-    let mut replica = Replica::<1>::new(alloc, ReplicaId::new(10)).expect(&rt, "a replica");
-    expect_created(&rt, alloc, &mut replica);
+    let id = ReplicaId::new(10);
+    let mut replica = Replica::<1>::new(rt.alloc(), id).expect(&rt, "a replica");
+    assert!(rt; told_of(&replica) == (id, (0, 0), 0));
+    let unit = unit::<1>(&rt, 0);
+    for &(name, count) in NAMES {
+        let told = (item_id(&rt, count, 10), (count, count), true);
+        let is_so = created(&rt, rt.alloc(), &mut replica, unit, name) == told;
+        assert!(rt; is_so, "{name}");
+    }
+    let stores_nothing = stores_nothing(&rt, rt.alloc(), &replica);
     drop(replica);
+    assert!(rt; stores_nothing);
 }
 
 /// What the replica answers where an item is to be created, and its counts then.
@@ -91,38 +88,49 @@ fn refused_name(
     (answer, counts(replica))
 }
 
-/// Texts that are no names, and where they go wrong.
-const BAD_NAMES: &[(&str, usize)] = &[("", 0), ("b/", 2), ("b//f", 2), ("b\u{1}", 1)];
+/// Why an edit is refused; a clash is with the item of this tick.
+enum Refusal {
+    NoItem,
+    BadUnit(usize),
+    BadName(usize),
+    Clash(u64),
+}
 
-/// A replica of three items is to refuse texts that are no names.
-fn expect_bad_names(rt: &impl Abort, alloc: Global, replica: &mut Replica<1>) {
-    for &(name, at) in BAD_NAMES {
-        let fault = Err(EditFault::BadName(at));
-        let is_so = refused_name(rt, alloc, replica, name) == (fault, (3, 3));
-        assert!(rt; is_so, "{name}");
+/// The fault that tells so, where there are two units.
+fn fault_of(rt: &impl Abort, refusal: &Refusal) -> EditFault {
+    match refusal {
+        Refusal::NoItem => EditFault::NoItem,
+        Refusal::BadUnit(k) => EditFault::BadUnit { k: *k, u: 2 },
+        Refusal::BadName(at) => EditFault::BadName(*at),
+        Refusal::Clash(tick) => EditFault::Clash(item_id(rt, *tick, 10)),
     }
 }
 
-/// Names, and the ticks of the items that they clash with.
-const CLASHES: &[(&str, u64)] = &[("b", 3), ("b/f", 3), ("a", 1), ("a/x", 1), ("a/z/x", 2)];
+/// Names, and why a replica that created `a/x/y`, `a/z` and `b` refuses them.
+const REFUSED_NAMES: &[(&str, Refusal)] = &[
+    ("", Refusal::BadName(0)),
+    ("b/", Refusal::BadName(2)),
+    ("b//f", Refusal::BadName(2)),
+    ("b\u{1}", Refusal::BadName(1)),
+    ("b", Refusal::Clash(3)),
+    ("b/f", Refusal::Clash(3)),
+    ("a", Refusal::Clash(1)),
+    ("a/x", Refusal::Clash(1)),
+    ("a/z/x", Refusal::Clash(2)),
+];
 
-/// A replica that created `a/x/y`, `a/z` and `b` is to refuse names that clash with theirs.
-fn expect_clashes(rt: &impl Abort, alloc: Global, replica: &mut Replica<1>) {
-    for &(name, item) in CLASHES {
-        let fault = Err(EditFault::Clash(item_id(rt, item, 10)));
-        let is_so = refused_name(rt, alloc, replica, name) == (fault, (3, 3));
-        assert!(rt; is_so, "{name}");
-    }
-    assert!(rt; create(rt, alloc, replica, "a/x2") == Ok(item_id(rt, 4, 10)));
-}
-
+/// Each name is to be refused, and the replica to stay as it is.
 #[test]
 fn refuses_creation(rt: HostRuntime) {
-    let alloc = rt.alloc();
-    let mut replica = with_names(&rt, alloc, &["a/x/y", "a/z", "b"]);
-    expect_bad_names(&rt, alloc, &mut replica);
-    expect_clashes(&rt, alloc, &mut replica);
+    let mut replica = with_names(&rt, rt.alloc(), &["a/x/y", "a/z", "b"]);
+    for (name, refusal) in REFUSED_NAMES {
+        let answer = create(&rt, rt.alloc(), &mut replica, name);
+        let is_refused = answer == Err(fault_of(&rt, refusal));
+        assert!(rt; is_refused && counts(&replica) == (3, 3), "{name}");
+    }
+    let created = create(&rt, rt.alloc(), &mut replica, "a/x2");
     drop(replica);
+    assert!(rt; created == Ok(item_id(&rt, 4, 10)));
 }
 
 /// Writes the text to the unit of the item: the version, the counts then, and whether the item has it.
@@ -151,16 +159,6 @@ const WRITTEN: &[(u64, usize, &str, u64)] = &[
     (1, 1, "b", 9),
 ];
 
-/// A pair is to take each text at its tick.
-fn expect_written(rt: &impl Abort, alloc: Global, replica: &mut Replica<2>) {
-    for &(item, k, text, count) in WRITTEN {
-        let (id, unit) = (item_id(rt, item, 10), unit::<2>(rt, k));
-        let told = (version(rt, 10, count), (count, 2), true);
-        let is_so = written(rt, alloc, replica, &id, unit, text) == told;
-        assert!(rt; is_so, "{text}");
-    }
-}
-
 /// The name of the first item and the text of the second are to stay as they were written last.
 fn expect_kept(rt: &impl Abort, replica: &Replica<2>) {
     let named = version(rt, 10, 8);
@@ -169,50 +167,53 @@ fn expect_kept(rt: &impl Abort, replica: &Replica<2>) {
     assert!(rt; holds(replica, &item_id(rt, 2, 10), unit::<2>(rt, 1), "", &cleared));
 }
 
+/// A pair is to take each text at its tick.
 #[test]
 fn sets_values(rt: HostRuntime) {
-    let alloc = rt.alloc();
-    let mut replica = pair(&rt, alloc, 10);
-    expect_written(&rt, alloc, &mut replica);
+    let mut replica = pair(&rt, rt.alloc(), 10);
+    for &(item, k, text, count) in WRITTEN {
+        let (id, unit) = (item_id(&rt, item, 10), unit::<2>(&rt, k));
+        let told = (version(&rt, 10, count), (count, 2), true);
+        let is_so = written(&rt, rt.alloc(), &mut replica, &id, unit, text) == told;
+        assert!(rt; is_so, "{text}");
+    }
     expect_kept(&rt, &replica);
     drop(replica);
 }
 
-/// What a pair answers to a text for the unit of the item, its clock then, and whether it is as at first.
-fn refused_text(
-    rt: &impl Abort,
-    alloc: Global,
-    replica: &mut Replica<2>,
-    id: &ItemId,
-    k: usize,
-    text: &str,
-) -> (Result<Version, EditFault>, (u64, u64), bool) {
-    let answer = set(rt, alloc, replica, id, k, text);
-    (answer, counts(replica), is_pair(rt, alloc, replica))
+/// The tick and replica of an item, a unit, a text, and why a pair refuses it there.
+type Refused<'a> = (u64, u128, usize, &'a str, Refusal);
+
+/// Texts for units that are not there, and for names.
+const REFUSED_TEXTS: &[Refused] = &[
+    (3, 10, 2, "/", Refusal::NoItem),
+    (1, 11, 0, "a", Refusal::NoItem),
+    (1, 10, 2, "/", Refusal::BadUnit(2)),
+    (1, 10, 7, "b", Refusal::BadUnit(7)),
+    (1, 10, 0, "/", Refusal::BadName(0)),
+    (1, 10, 0, "b/c/", Refusal::BadName(4)),
+    (1, 10, 0, "b", Refusal::Clash(2)),
+    (1, 10, 0, "b/c", Refusal::Clash(2)),
+    (2, 10, 0, "a/d", Refusal::Clash(1)),
+];
+
+/// Whether the replica is a pair as it is at first, its clock included.
+fn is_untouched(rt: &impl Abort, alloc: Global, replica: &Replica<2>) -> bool {
+    counts(replica) == (2, 2) && is_pair(rt, alloc, replica)
 }
 
-/// A pair is to refuse texts for units that are not there, and for names.
-fn expect_not_written(rt: &impl Abort, alloc: Global, replica: &mut Replica<2>) {
-    for (item, maker, k, text, fault) in [
-        (3, 10, 2, "/", EditFault::NoItem),
-        (1, 11, 0, "a", EditFault::NoItem),
-        (1, 10, 2, "/", EditFault::BadUnit { k: 2, u: 2 }),
-        (1, 10, 7, "b", EditFault::BadUnit { k: 7, u: 2 }),
-        (1, 10, 0, "/", EditFault::BadName(0)),
-        (1, 10, 0, "b/c/", EditFault::BadName(4)),
-        (1, 10, 0, "b", EditFault::Clash(item_id(rt, 2, 10))),
-        (1, 10, 0, "b/c", EditFault::Clash(item_id(rt, 2, 10))),
-        (2, 10, 0, "a/d", EditFault::Clash(item_id(rt, 1, 10))),
-    ] {
-        let answer = refused_text(rt, alloc, replica, &item_id(rt, item, maker), k, text);
-        assert!(rt; answer == (Err(fault), (2, 2), true), "{text}");
-    }
-}
-
+/// Each text is to be refused, and the pair to stay as it is.
 #[test]
 fn refuses_values(rt: HostRuntime) {
-    let alloc = rt.alloc();
-    let mut replica = pair(&rt, alloc, 10);
-    expect_not_written(&rt, alloc, &mut replica);
+    let mut replica = pair(&rt, rt.alloc(), 10);
+    for (item, maker, k, text, refusal) in REFUSED_TEXTS {
+        let id = item_id(&rt, *item, *maker);
+        let answer = set(&rt, rt.alloc(), &mut replica, &id, *k, text);
+        let is_refused = answer == Err(fault_of(&rt, refusal));
+        assert!(rt;
+            is_refused && is_untouched(&rt, rt.alloc(), &replica),
+            "{text}"
+        );
+    }
     drop(replica);
 }

@@ -132,17 +132,19 @@ fn absent(rt: &impl Abort, alloc: Global, of: Version, tick: u64, gone: u64) -> 
     told
 }
 
-/// A row: the replica that made the change, the ticks of `a` that are known and forgotten, and the class.
+/// The replica that made the change, the ticks of `a` that are known and forgotten, and the class.
+const ABSENT: &[(u128, u64, u64, Told)] = &[
+    (A, 1, 1, Told::Known),
+    (A, 0, 1, Told::Taken),
+    (B, 1, 1, Told::Taken),
+    (B, 1, 2, Told::Conflict),
+];
+
 #[test]
 fn classifies_what_is_absent(rt: HostRuntime) {
-    for (replica, tick, gone, told) in [
-        (A, 1, 1, Told::Known),
-        (A, 0, 1, Told::Taken),
-        (B, 1, 1, Told::Taken),
-        (B, 1, 2, Told::Conflict),
-    ] {
-        let class = absent(&rt, rt.alloc(), version(&rt, replica, 1), tick, gone);
-        assert!(rt; class == told, "{replica} {tick} {gone}");
+    for &(replica, tick, gone, told) in ABSENT {
+        let is_so = absent(&rt, rt.alloc(), version(&rt, replica, 1), tick, gone) == told;
+        assert!(rt; is_so, "{replica}");
     }
 }
 
@@ -167,23 +169,33 @@ fn present(rt: &impl Abort, alloc: Global, is_live: bool, is_live_there: bool, b
     told
 }
 
-/// A row: whether the change is live, whether the item is, the tick of `b` that the source knows, and the class.
+/// Whether the change is live, whether the item is, the tick of `b` that the source knows, and the class.
+const PRESENT: &[(bool, bool, u64, Told)] = &[
+    (
+        LIVE,
+        LIVE,
+        1,
+        Told::Units(UnitClass::Known, UnitClass::Newer),
+    ),
+    (
+        LIVE,
+        LIVE,
+        0,
+        Told::Units(UnitClass::Known, UnitClass::Concurrent),
+    ),
+    (DEAD, LIVE, 1, Told::Taken),
+    (DEAD, LIVE, 0, Told::Conflict),
+    (LIVE, DEAD, 1, Told::Taken),
+    (LIVE, DEAD, 0, Told::Conflict),
+    (DEAD, DEAD, 1, Told::Taken),
+    (DEAD, DEAD, 0, Told::Conflict),
+];
+
 #[test]
 fn classifies_what_is_present(rt: HostRuntime) {
-    let newer = Told::Units(UnitClass::Known, UnitClass::Newer);
-    let concurrent = Told::Units(UnitClass::Known, UnitClass::Concurrent);
-    for (change, local, b, told) in [
-        (LIVE, LIVE, 1, newer),
-        (LIVE, LIVE, 0, concurrent),
-        (DEAD, LIVE, 1, Told::Taken),
-        (DEAD, LIVE, 0, Told::Conflict),
-        (LIVE, DEAD, 1, Told::Taken),
-        (LIVE, DEAD, 0, Told::Conflict),
-        (DEAD, DEAD, 1, Told::Taken),
-        (DEAD, DEAD, 0, Told::Conflict),
-    ] {
-        let class = present(&rt, rt.alloc(), change, local, b);
-        assert!(rt; class == told, "{change} {local} {b}");
+    for &(change, local, b, told) in PRESENT {
+        let is_so = present(&rt, rt.alloc(), change, local, b) == told;
+        assert!(rt; is_so, "{change} {local} {b}");
     }
 }
 
@@ -243,17 +255,19 @@ fn conflict(rt: &impl Abort, alloc: Global, keep: Keep) -> (Mark, Mark, usize) {
     told
 }
 
-/// A row: the rule, the mark of unit 1, and how long its value is.
+/// A rule, the mark of unit 1, and how long its value is.
+const SETTLED_UNITS: &[(Keep, Mark, usize)] = &[
+    (Keep::Source, Mark::Stamped, 2),
+    (Keep::Destination, Mark::Stamped, 1),
+    (Keep::Merge, Mark::Stamped, 2),
+    (Keep::Skip, Mark::Left, 1),
+];
+
 #[test]
 fn settles_units(rt: HostRuntime) {
-    for (keep, mark, length) in [
-        (Keep::Source, Mark::Stamped, 2),
-        (Keep::Destination, Mark::Stamped, 1),
-        (Keep::Merge, Mark::Stamped, 2),
-        (Keep::Skip, Mark::Left, 1),
-    ] {
-        let drafted = conflict(&rt, rt.alloc(), keep);
-        assert!(rt; drafted == (Mark::Stays, mark, length), "{keep:?}");
+    for &(keep, mark, length) in SETTLED_UNITS {
+        let is_so = conflict(&rt, rt.alloc(), keep) == (Mark::Stays, mark, length);
+        assert!(rt; is_so, "{keep:?}");
     }
 }
 
@@ -267,17 +281,19 @@ fn deletion(rt: &impl Abort, alloc: Global, keep: Keep) -> (Mark, Mark, usize) {
     result_of(rt, draft)
 }
 
-/// A row: the rule, the mark of both units, and how long the value of unit 1 is.
+/// A rule, the mark of both units, and how long the value of unit 1 is.
+const SETTLED_ITEMS: &[(Keep, Mark, usize)] = &[
+    (Keep::Source, Mark::Stamped, 0),
+    (Keep::Destination, Mark::Stamped, 1),
+    (Keep::Merge, Mark::Stamped, 1),
+    (Keep::Skip, Mark::Left, 0),
+];
+
 #[test]
 fn settles_whole_items(rt: HostRuntime) {
-    for (keep, mark, length) in [
-        (Keep::Source, Mark::Stamped, 0),
-        (Keep::Destination, Mark::Stamped, 1),
-        (Keep::Merge, Mark::Stamped, 1),
-        (Keep::Skip, Mark::Left, 0),
-    ] {
-        let drafted = deletion(&rt, rt.alloc(), keep);
-        assert!(rt; drafted == (mark, mark, length), "{keep:?}");
+    for &(keep, mark, length) in SETTLED_ITEMS {
+        let is_so = deletion(&rt, rt.alloc(), keep) == (mark, mark, length);
+        assert!(rt; is_so, "{keep:?}");
     }
 }
 
@@ -291,28 +307,34 @@ fn clash(rt: &impl Abort, alloc: Global, rule: ClashRule) -> (Mark, Mark, usize)
     result_of(rt, settled)
 }
 
-/// A row: the rule, the marks of both units, and how long the value of unit 1 is.
+/// A rule, the marks of both units and how long the value of unit 1 is.
+const SETTLED_CLASHES: &[(ClashRule, (Mark, Mark, usize))] = &[
+    (ClashRule::Source, (Mark::Taken, Mark::Taken, 1)),
+    (ClashRule::RenameDestination, (Mark::Taken, Mark::Taken, 1)),
+    (ClashRule::Destination, (Mark::Stamped, Mark::Stamped, 0)),
+    (ClashRule::RenameSource, (Mark::Stamped, Mark::Taken, 1)),
+    (ClashRule::Skip, (Mark::Left, Mark::Left, 0)),
+];
+
 #[test]
 fn settles_clashes(rt: HostRuntime) {
-    for (rule, name, value, length) in [
-        (ClashRule::Source, Mark::Taken, Mark::Taken, 1),
-        (ClashRule::RenameDestination, Mark::Taken, Mark::Taken, 1),
-        (ClashRule::Destination, Mark::Stamped, Mark::Stamped, 0),
-        (ClashRule::RenameSource, Mark::Stamped, Mark::Taken, 1),
-        (ClashRule::Skip, Mark::Left, Mark::Left, 0),
-    ] {
-        let drafted = clash(&rt, rt.alloc(), rule);
-        assert!(rt; drafted == (name, value, length), "{rule:?}");
+    for &(rule, told) in SETTLED_CLASHES {
+        let is_so = clash(&rt, rt.alloc(), rule) == told;
+        assert!(rt; is_so, "{rule:?}");
     }
 }
 
+/// A clock, how many ticks are counted on, and the tick that comes of it.
+const FRESH: &[(u64, u64, Result<u64, ClockFull>)] = &[
+    (3, 2, Ok(5)),
+    (MAX_TICK, 0, Ok(MAX_TICK)),
+    (MAX_TICK - 1, 2, Err(ClockFull(MAX_TICK - 1))),
+];
+
 #[test]
 fn counts_fresh_ticks(rt: HostRuntime) {
-    for (clock, count, told) in [
-        (3, 2, Ok(5)),
-        (MAX_TICK, 0, Ok(MAX_TICK)),
-        (MAX_TICK - 1, 2, Err(ClockFull(MAX_TICK - 1))),
-    ] {
-        assert!(rt; fresh(clock, count) == told, "{clock} {count}");
+    for &(clock, count, told) in FRESH {
+        let is_so = fresh(clock, count) == told;
+        assert!(rt; is_so, "{clock}");
     }
 }
