@@ -4,21 +4,10 @@ use sfx_script::{LineFault, parse_line};
 use std::alloc::Global;
 use std::process::Abort;
 
-/// Why the bytes are no line.
-fn fault_of(alloc: Global, line: &[u8]) -> Option<LineFault> {
-    let read = parse_line(alloc, line);
-    let fault = match &read {
-        Ok(_) => None,
-        Err(fault) => Some(*fault),
-    };
-    drop(read);
-    fault
-}
-
 /// Each row, bytes and where they go wrong as a line, is to be so.
 fn expect_faults(rt: &impl Abort, alloc: Global, rows: &[(&[u8], usize)]) {
     for &(line, at) in rows {
-        let is_so = fault_of(alloc, line) == Some(LineFault::Syntax(at));
+        let is_so = parse_line(alloc, line).err() == Some(LineFault::Syntax(at));
         assert!(rt; is_so, "{line:?}");
     }
 }
