@@ -1,3 +1,4 @@
+pub mod Causes
 pub mod Taking
 pub mod Lists
 pub mod Listing

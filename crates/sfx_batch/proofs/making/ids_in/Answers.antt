@@ -1,5 +1,7 @@
-use Rattle.std.proofs.Common.{◌∙◌, append_assoc, sym, arith}
+use Rattle.std.proofs.Common.{◌∙◌, append_assoc, le_trans, sym, arith}
 use Rattle.std.proofs.lemmas.List.{append-nil}
+use Rattle.std.proofs.lemmas.Result.{err_from_is_err_and}
+use Rattle.sfx_batch.proofs.Causes.{cause_later}
 use Rattle.sfx_batch.proofs.Listing.{first_is, listed_fewer, listed_on, listed_out, listed_up}
 use Rattle.sfx_batch.proofs.making.ids_in.Goals as goal
 
@@ -46,18 +48,53 @@ walk-preserved g c =
       faults = omega (arith, low, fell);
     }
 
-pub returns-in_err-id-clause-came : goal.returns-in_err-id-clause-came
-returns-in_err-id-clause-came g c =
-    g.met.P.Provider.came_read c.args.source.now c.walk.source c.next_id.new.source _ c.walk.invariant.came c.in_err-id.ensures.came
+pub returns-in_err-id : goal.returns-in_err-id
+returns-in_err-id g c =
+    let p = g.P.Provider in
+    let source = c.args.source.now in
+    let exit = err_from_is_err_and c.from_residual.result c.from_residual.ensures.1 in
+    let so_far = c.walk.invariant in
+    let failed = c.in_err-id.ensures in record {
+      value = rw exit.1 tt;
+      state = failed.state ∙ so_far.state;
+      kept = failed.kept ∙ so_far.kept;
+      came = g.met.P.Provider.came_read source c.walk.source c.next_id.new.source _ so_far.came failed.came;
+      cause = rw (exit.1, exit.2) (cause_later (p.faults source) (p.faults c.walk.source) (p.faults c.next_id.new.source) _ so_far.faults failed.cause);
+    }
 
-pub returns-in_err-push-clause-came : goal.returns-in_err-push-clause-came
-returns-in_err-push-clause-came g c =
-    g.met.P.Provider.came_read c.args.source.now c.walk.source c.next_id.new.source _ c.walk.invariant.came c.in_ok-id.ensures.came
+pub returns-in_err-push : goal.returns-in_err-push
+returns-in_err-push g c =
+    let source = c.args.source.now in
+    let exit = err_from_is_err_and c.from_residual-in_err-push.result c.from_residual-in_err-push.ensures.1 in
+    let so_far = c.walk.invariant in
+    let read = c.in_ok-id.ensures in record {
+      value = rw exit.1 tt;
+      state = read.state ∙ so_far.state;
+      kept = read.kept ∙ so_far.kept;
+      came = g.met.P.Provider.came_read source c.walk.source c.next_id.new.source _ so_far.came read.came;
+      cause = rw (exit.1, exit.2) (le_trans so_far.faults read.cause);
+    }
+
+pub returns-then-not-in_range-clause-state : goal.returns-then-not-in_range-clause-state
+returns-then-not-in_range-clause-state g c = c.in_ok-id.ensures.state ∙ c.walk.invariant.state
+
+pub returns-then-not-in_range-clause-kept : goal.returns-then-not-in_range-clause-kept
+returns-then-not-in_range-clause-kept g c = c.in_ok-id.ensures.kept ∙ c.walk.invariant.kept
 
 pub returns-then-not-in_range-clause-came : goal.returns-then-not-in_range-clause-came
-returns-then-not-in_range-clause-came g c =
-    g.met.P.Provider.came_read c.args.source.now c.walk.source c.next_id.new.source _ c.walk.invariant.came c.in_ok-id.ensures.came
+returns-then-not-in_range-clause-came g c = g.met.P.Provider.came_read c.args.source.now c.walk.source c.next_id.new.source _ c.walk.invariant.came c.in_ok-id.ensures.came
+
+pub returns-then-not-in_range-clause-cause : goal.returns-then-not-in_range-clause-cause
+returns-then-not-in_range-clause-cause g c = le_trans c.walk.invariant.faults c.in_ok-id.ensures.cause
+
+pub returns-clause-state : goal.returns-clause-state
+returns-clause-state g c = c.in_ok-id.ensures.state ∙ c.walk.invariant.state
+
+pub returns-clause-kept : goal.returns-clause-kept
+returns-clause-kept g c = c.in_ok-id.ensures.kept ∙ c.walk.invariant.kept
 
 pub returns-clause-came : goal.returns-clause-came
-returns-clause-came g c =
-    g.met.P.Provider.came_read c.args.source.now c.walk.source c.next_id.new.source _ c.walk.invariant.came c.in_ok-id.ensures.came
+returns-clause-came g c = g.met.P.Provider.came_read c.args.source.now c.walk.source c.next_id.new.source _ c.walk.invariant.came c.in_ok-id.ensures.came
+
+pub returns-clause-cause : goal.returns-clause-cause
+returns-clause-cause g c = le_trans c.walk.invariant.faults c.in_ok-id.ensures.cause
