@@ -1,5 +1,8 @@
-use Rattle.std.proofs.Common.{le_refl, refl}
+use Rattle.std.proofs.Common.{◌∙◌, ap, le_refl, refl}
 use Rattle.std.proofs.lemmas.Result.{err_from_is_err_and}
+use Rattle.sfx_model.specs.Batch.{batch_from}
+use Rattle.sfx_model.specs.declared.mode.Mode.TheVariants.{Normal}
+use Rattle.sfx_provider.specs.Head.{HeadData}
 use Rattle.sfx_apply.proofs.Exits.{if_ok_never}
 use Rattle.sfx_session.proofs.sessions.next_batch.Goals as goal
 
@@ -22,6 +25,12 @@ returns-in_err-head g c =
       fault_alone = rw (exit.1, exit.2) failed.fault_alone;
       cause = rw (exit.1, exit.2) (failed.cause _ _ (le_refl _));
     }
+
+pub returns-in-Ok-clause-value : goal.returns-in-Ok-clause-value
+returns-in-Ok-clause-value g c =
+    c.in-Ok.ensures.value
+    ∙ ap (λ (h : HeadData). batch_from g.row.U (g.P.Provider.state c.args.source.now) Normal c.args.size h.knowledge c.args.from.now)
+    (c.head.view_is ∙ c.in_ok-head.ensures.value)
 
 pub returns-in-Ok-clause-source : goal.returns-in-Ok-clause-source
 returns-in-Ok-clause-source g c = c.in-Ok.ensures.state
