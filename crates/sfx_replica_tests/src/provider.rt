@@ -1,5 +1,4 @@
 //! Commits to small replicas, and providers of them.
-ghost use Rattle.std.specs.Prelude.{◌≡◌, IfOk};
 ghost use Rattle.sfx_provider.specs.Course.{AllFit};
 ghost use Rattle.sfx_provider.specs.Fits.{Fits};
 
@@ -13,37 +12,40 @@ use std::alloc::Global;
 use std::process::Abort;
 
 /// A commit that drops the item, which the replica holds.
-fn dropping(alloc: Global, replica: &Replica<2>, id: &ItemId) -> Result<Commit<2>, ProviderFault>
-    ensures { IfOk result (λ commit. Fits 2 commit replica.now) }
+fn dropping(rt: &impl Abort, alloc: Global, replica: &Replica<2>, id: &ItemId) -> Commit<2>
+    ensures { Fits 2 result replica.now }
 {
     replica.id();
     let Some(_) = replica.item(id) else {
-        return Err(ProviderFault::Failed);
+        panic!(rt; "an item");
     };
-    let mut commit = replica.head(alloc)?.into_commit(alloc);
-    commit.drops.push(*id)?;
-    Ok(commit)
+    let mut commit = replica.head(alloc).expect(rt, "a head").into_commit(alloc);
+    commit.drops.push(*id).expect(rt, "memory");
+    commit
 }
 
 /// A commit that puts a tombstone in the place of the item, which the replica holds.
-fn burying(alloc: Global, replica: &Replica<2>, id: &ItemId) -> Result<Commit<2>, ProviderFault>
-    ensures { IfOk result (λ commit. Fits 2 commit replica.now) }
+fn burying(rt: &impl Abort, alloc: Global, replica: &Replica<2>, id: &ItemId) -> Commit<2>
+    ensures { Fits 2 result replica.now }
 {
     replica.id();
     let Some(_) = replica.item(id) else {
-        return Err(ProviderFault::Failed);
+        panic!(rt; "an item");
     };
-    let mut commit = replica.head(alloc)?.into_commit(alloc);
+    let mut commit = replica.head(alloc).expect(rt, "a head").into_commit(alloc);
     let state = State::Dead(id.creation());
-    commit.puts.push(Item { id: *id, state })?;
-    Ok(commit)
+    commit
+        .puts
+        .push(Item { id: *id, state })
+        .expect(rt, "memory");
+    commit
 }
 
 /// A pair is to have its second item alone once a drop of the first is installed.
 #[test]
 fn installs_drops(rt: HostRuntime) {
     let mut replica = pair(&rt, rt.alloc(), 10);
-    let commit = dropping(rt.alloc(), &replica, &item_id(&rt, 1, 10)).expect(&rt, "a commit");
+    let commit = dropping(&rt, rt.alloc(), &replica, &item_id(&rt, 1, 10));
     replica.install(&commit).expect(&rt, "memory");
     drop(commit);
     let counts = counts(&replica);
@@ -55,7 +57,7 @@ fn installs_drops(rt: HostRuntime) {
 
 /// Installs a copy of a commit that puts a tombstone in the place of the item.
 fn install_put(rt: &impl Abort, alloc: Global, replica: &mut Replica<2>, id: &ItemId) {
-    let commit = burying(alloc, replica, id).expect(rt, "a commit");
+    let commit = burying(rt, alloc, replica, id);
     let copy = commit.copy(alloc).expect(rt, "a copy");
     drop(commit);
     replica.install(&copy).expect(rt, "memory");
@@ -208,38 +210,14 @@ fn left(provider: MemoryProvider<2>) -> usize {
 }
 
 /// How many items a provider of a pair has after a commit that drops one, and its answer.
-fn commit_one(
-    rt: &impl Abort,
-    alloc: Global,
-    id: &ItemId,
-    fails: &[u64],
-) -> (usize, Result<(), ProviderFault>) {
+fn commit_one(rt: &impl Abort, alloc: Global, id: &ItemId, fails: &[u64]) -> Committed {
     let replica = pair(rt, alloc, 10);
-    let commit = dropping(alloc, &replica, id).expect(rt, "a commit");
+    let commit = dropping(rt, alloc, &replica, id);
     let fails = Vec::from_slice(alloc, fails).expect(rt, "calls");
     let mut provider = MemoryProvider::new(replica, fails);
     let answer = provider.commit(&commit);
     drop(commit);
     (left(provider), answer)
-}
-
-/// The answer where a call fails.
-const FAILED: Result<(), ProviderFault> = Err(ProviderFault::Failed);
-
-/// The calls that fail, how many items there are after a commit that drops one, and the answer to it.
-const COMMITTED: &[(&[u64], (usize, Result<(), ProviderFault>))] = &[
-    (&[], (1, Ok(()))),
-    (&[2], (1, Ok(()))),
-    (&[1], (2, FAILED)),
-];
-
-#[test]
-fn commits_unless_listed(rt: HostRuntime) {
-    let first = item_id(&rt, 1, 10);
-    for &(fails, told) in COMMITTED {
-        let is_so = commit_one(&rt, rt.alloc(), &first, fails) == told;
-        assert!(rt; is_so, "{fails:?}");
-    }
 }
 
 /// How many items a walk over a provider whose listed calls fail gives.
@@ -271,29 +249,19 @@ fn walks_over_items(rt: HostRuntime) {
 }
 
 /// A commit that changes nothing, and one that drops the item, which the replica holds.
-fn two_commits(
-    alloc: Global,
-    replica: &Replica<2>,
-    id: &ItemId,
-) -> Result<Vec<Commit<2>>, ProviderFault>
-    ensures { IfOk result (λ commits. AllFit 2 commits.items replica.now) }
+fn two_commits(rt: &impl Abort, alloc: Global, replica: &Replica<2>, id: &ItemId) -> Vec<Commit<2>>
+    ensures { AllFit 2 result.items replica.now }
 {
     replica.id();
-    let mut commits = Vec::new(alloc);
-    commits.push(replica.head(alloc)?.into_commit(alloc))?;
-    commits.push(dropping(alloc, replica, id)?)?;
-    Ok(commits)
+    let unchanged = replica.head(alloc).expect(rt, "a head").into_commit(alloc);
+    let commits = [unchanged, dropping(rt, alloc, replica, id)];
+    Vec::from_array(alloc, commits).expect(rt, "memory")
 }
 
 /// How many items a provider of a pair has after two commits, and its answer.
-fn commit_two(
-    rt: &impl Abort,
-    alloc: Global,
-    id: &ItemId,
-    fails: &[u64],
-) -> (usize, Result<(), ProviderFault>) {
+fn commit_two(rt: &impl Abort, alloc: Global, id: &ItemId, fails: &[u64]) -> Committed {
     let replica = pair(rt, alloc, 10);
-    let commits = two_commits(alloc, &replica, id).expect(rt, "commits");
+    let commits = two_commits(rt, alloc, &replica, id);
     let fails = Vec::from_slice(alloc, fails).expect(rt, "calls");
     let mut provider = MemoryProvider::new(replica, fails);
     let answer = commit_all(&mut provider, commits.as_slice());
@@ -301,18 +269,25 @@ fn commit_two(
     (left(provider), answer)
 }
 
-/// The calls that fail, how many items there are after two commits, and the answer to them.
-const BOTH_COMMITTED: &[(&[u64], (usize, Result<(), ProviderFault>))] = &[
-    (&[], (1, Ok(()))),
-    (&[1], (2, FAILED)),
-    (&[2], (2, FAILED)),
+/// The answer where a call fails.
+const FAILED: Result<(), ProviderFault> = Err(ProviderFault::Failed);
+
+/// How many items there are, and the answer.
+type Committed = (usize, Result<(), ProviderFault>);
+
+/// The calls that fail, what comes of a commit that drops an item, and of two commits in a row.
+const COMMITTED: &[(&[u64], Committed, Committed)] = &[
+    (&[], (1, Ok(())), (1, Ok(()))),
+    (&[1], (2, FAILED), (2, FAILED)),
+    (&[2], (1, Ok(())), (2, FAILED)),
 ];
 
 #[test]
-fn commits_in_a_row(rt: HostRuntime) {
+fn commits_unless_listed(rt: HostRuntime) {
     let first = item_id(&rt, 1, 10);
-    for &(fails, told) in BOTH_COMMITTED {
-        let is_so = commit_two(&rt, rt.alloc(), &first, fails) == told;
-        assert!(rt; is_so, "{fails:?}");
+    for &(fails, of_one, of_two) in COMMITTED {
+        let one = commit_one(&rt, rt.alloc(), &first, fails);
+        let two = commit_two(&rt, rt.alloc(), &first, fails);
+        assert!(rt; (one, two) == (of_one, of_two), "{fails:?}");
     }
 }

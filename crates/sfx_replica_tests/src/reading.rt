@@ -165,17 +165,20 @@ fn lists_clashing_items(rt: HostRuntime) {
     drop(replica);
 }
 
+/// The number of a replica, and which unit of its first item is written, and the text.
+const WRITES: &[(usize, usize, &str)] = &[(3, 1, "1"), (4, 1, "2"), (5, 0, "a")];
+
 /// Makes the edit of this number, where there is one.
 fn edit(rt: &impl Abort, alloc: Global, replica: &mut Replica<2>, which: usize) {
-    let first = item_id(rt, 1, 10);
-    let is_made = match which {
-        3 => set(rt, alloc, replica, &first, 1, "1").is_ok(),
-        4 => set(rt, alloc, replica, &first, 1, "2").is_ok(),
-        5 => set(rt, alloc, replica, &first, 0, "a").is_ok(),
-        6 => create_two(rt, alloc, replica, "c", "").is_ok(),
-        _ => true,
-    };
-    assert!(rt; is_made, "{which}");
+    for &(number, k, text) in WRITES {
+        if number == which {
+            let written = set(rt, alloc, replica, &item_id(rt, 1, 10), k, text);
+            written.expect(rt, "a version");
+        }
+    }
+    if which == 6 {
+        create_two(rt, alloc, replica, "c", "").expect(rt, "an item");
+    }
 }
 
 /// What the replica of this number is before its edit: empty, or a pair.

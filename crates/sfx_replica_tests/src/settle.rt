@@ -255,22 +255,6 @@ fn conflict(rt: &impl Abort, alloc: Global, keep: Keep) -> (Mark, Mark, usize) {
     told
 }
 
-/// A rule, the mark of unit 1, and how long its value is.
-const SETTLED_UNITS: &[(Keep, Mark, usize)] = &[
-    (Keep::Source, Mark::Stamped, 2),
-    (Keep::Destination, Mark::Stamped, 1),
-    (Keep::Merge, Mark::Stamped, 2),
-    (Keep::Skip, Mark::Left, 1),
-];
-
-#[test]
-fn settles_units(rt: HostRuntime) {
-    for &(keep, mark, length) in SETTLED_UNITS {
-        let is_so = conflict(&rt, rt.alloc(), keep) == (Mark::Stays, mark, length);
-        assert!(rt; is_so, "{keep:?}");
-    }
-}
-
 /// What is drafted for a deletion and a live item in conflict.
 fn deletion(rt: &impl Abort, alloc: Global, keep: Keep) -> (Mark, Mark, usize) {
     let gone = item(rt, alloc, DEAD, version(rt, A, 2));
@@ -281,19 +265,21 @@ fn deletion(rt: &impl Abort, alloc: Global, keep: Keep) -> (Mark, Mark, usize) {
     result_of(rt, draft)
 }
 
-/// A rule, the mark of both units, and how long the value of unit 1 is.
-const SETTLED_ITEMS: &[(Keep, Mark, usize)] = &[
-    (Keep::Source, Mark::Stamped, 0),
-    (Keep::Destination, Mark::Stamped, 1),
-    (Keep::Merge, Mark::Stamped, 1),
-    (Keep::Skip, Mark::Left, 0),
+/// A rule, and the mark and how long the value of unit 1 is: of two rows that are in conflict there, whose names
+/// stay, and of a deletion and a live item, which have one mark at both units.
+const SETTLED: &[(Keep, (Mark, usize), (Mark, usize))] = &[
+    (Keep::Source, (Mark::Stamped, 2), (Mark::Stamped, 0)),
+    (Keep::Destination, (Mark::Stamped, 1), (Mark::Stamped, 1)),
+    (Keep::Merge, (Mark::Stamped, 2), (Mark::Stamped, 1)),
+    (Keep::Skip, (Mark::Left, 1), (Mark::Left, 0)),
 ];
 
 #[test]
-fn settles_whole_items(rt: HostRuntime) {
-    for &(keep, mark, length) in SETTLED_ITEMS {
-        let is_so = deletion(&rt, rt.alloc(), keep) == (mark, mark, length);
-        assert!(rt; is_so, "{keep:?}");
+fn settles_conflicts(rt: HostRuntime) {
+    for &(keep, (mark, length), (whole, rest)) in SETTLED {
+        let of_units = conflict(&rt, rt.alloc(), keep) == (Mark::Stays, mark, length);
+        let of_items = deletion(&rt, rt.alloc(), keep) == (whole, whole, rest);
+        assert!(rt; of_units && of_items, "{keep:?}");
     }
 }
 

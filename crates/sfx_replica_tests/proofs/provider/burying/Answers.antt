@@ -1,5 +1,6 @@
-use Rattle.std.proofs.Common.{◌≡◌, ◌∙◌, ap, refl}
+use Rattle.std.proofs.Common.{◌≡◌, ◌∙◌, ap, refl, subst}
 use Rattle.std.proofs.lemmas.List.{map-append}
+use Rattle.std.specs.Prelude.{IfOk}
 use Rattle.sfx_model.specs.Items.{items_view, state_view}
 use Rattle.sfx_provider.specs.Commit.{CommitData, commit_of}
 use Rattle.sfx_provider.specs.Head.{HeadData, head_of}
@@ -7,9 +8,10 @@ use Rattle.sfx_replica_tests.proofs.Burying.{burying_fits_by}
 use Rattle.sfx_replica_tests.proofs.provider.burying.Goals as goal
 
 pub returns : goal.returns
-returns c =
+returns w c =
     let commit : CommitData = record { clock = c.commit.inside.clock; knowledge = c.commit.inside.knowledge; forgotten = c.commit.inside.forgotten; puts = items_view c.commit.inside.puts.items; drops = c.commit.inside.drops.items } in
-    let is : commit ≡ commit_of (head_of 2 c.args.replica.now) = c.commit.view_is ∙ c.into_commit-commit.ensures ∙ ap commit_of c.in_ok-head.ensures in
+    let head : c.expect.result ≡ head_of 2 c.args.replica.now = subst (λ r. IfOk r (λ (h : HeadData). h ≡ head_of 2 c.args.replica.now)) c.expect.ensures c.head.ensures in
+    let is : commit ≡ commit_of (head_of 2 c.args.replica.now) = c.commit.view_is ∙ c.into_commit-commit.ensures ∙ ap commit_of head in
     burying_fits_by 2 c.args.replica.now c.args.id.now (state_view c.in-Some.field-0.now.state) commit (items_view c.push.new.self.items)
     c.id.ensures.consistent c.in-Some.ensures.state is
-    (rw (c.in_ok-push.ensures.items, map-append, c.creation.ensures) refl)
+    (rw (c.push.ensures.items, c.expect-2.ensures, map-append, c.creation.ensures) refl)
