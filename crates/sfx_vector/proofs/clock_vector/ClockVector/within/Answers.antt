@@ -28,7 +28,7 @@ loop-entry-preserved c = λ behind.
     c.loop-entry.entry-index
     c.loop-entry-test.true
     c.entry-item.is
-    (rw (← c.get.ensures.value, ← c.get-in-loop-entry.ensures) c.if-get.false)
+    (omega arith)
     behind)
 
 pub returns : goal.returns
