@@ -173,7 +173,7 @@ returns-in-Some-clause-report g c =
     g.met.Q.Provider.came_on i.travels i.source done.end c.in-Some.is done.travel done.state done.came in
     let free = free g.row.U source first c.in_ok-refuse.ensures.refused in
     let all : c.report.result ≡ report_of g.row.U source first c.args.size c.args.cut = c.report.ensures ∙ rw (free.normal, ← ended.steps, ← ended.end_is) refl in
-    all
+    search (rules, all)
 
 pub returns-in-Some-clause-state : goal.returns-in-Some-clause-state
 returns-in-Some-clause-state g c =
@@ -214,7 +214,7 @@ returns-in-Some-clause-done g c =
     g.met.Q.Provider.came_on i.travels i.source done.end c.in-Some.is done.travel done.state done.came in
     let done : c.args.cut ≡ None → c.report.result.end ≡ Done =
     λ none. ap (λ (r : ReportData). r.end) c.report.ensures ∙ ended.end_is ∙ session_done g.row.U source first c.args.size c.args.cut none in
-    done
+    search (rules, done)
 
 pub returns-in-Some-clause-acts : goal.returns-in-Some-clause-acts
 returns-in-Some-clause-acts g c =
