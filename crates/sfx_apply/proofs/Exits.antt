@@ -1,10 +1,10 @@
 -- What holds at an exit by `?`, whose answer is an Err.
-use Rattle.std.proofs.Common.{◌≡◌, ℕ, ◌≤◌, List, ◌∷◌, Option, Some, None, Result, Ok, Err, inl, inr, sym, subst, le_trans, arith}
+use Rattle.std.proofs.Common.{◌≡◌, ℕ, ◌≤◌, List, ◌∷◌, Option, Some, None, Result, Ok, Err, inl, sym, subst}
 use Rattle.std.specs.Prelude.{IfOk, IfSome, IsSome, OnOk, IsErrAnd}
 use Rattle.sfx_model.specs.Members.{Member}
 use Rattle.sfx_provider.specs.Fault.{HasCause}
 use Rattle.sfx_provider.specs.declared.provider_fault.ProviderFault.{ProviderFault}
-use Rattle.sfx_provider.specs.declared.provider_fault.ProviderFault.TheVariants.{Failed, Memory}
+use Rattle.sfx_provider.specs.declared.provider_fault.ProviderFault.TheVariants.{Memory}
 use Rattle.sfx_model.specs.Moments.{Moment, stops}
 use Rattle.sfx_apply.specs.Turns.{IsKeptIn}
 
@@ -16,13 +16,6 @@ ok_never Q R (Err e) is = tt
 pub if_ok_never : {T E : Type 0} (P : T → Type 0) (R : E → Type 0) (r : Result T E) → IsErrAnd r R → IfOk r P
 if_ok_never P R (Ok x) is = absurd is
 if_ok_never P R (Err e) is = tt
-
--- A fault has its cause also where the count rose before.
-pub cause_later :
-    (before middle now : ℕ) (e : ProviderFault)
-    → before ≤ middle → HasCause {T = Unit {0}} middle now (Err e) → HasCause {T = Unit {0}} before now (Err e)
-cause_later before middle now Failed low (rose, risen) = (le_trans low rose, elim risen [ inl more ↦ inl (let far = le_trans low rose in omega (arith, low, more)) | inr full ↦ inr full ])
-cause_later before middle now Memory low rose = le_trans low rose
 
 -- The cause of an answer is that of the fault that it hands on.
 pub cause_handed :

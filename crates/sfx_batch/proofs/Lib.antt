@@ -1,4 +1,3 @@
-pub mod Causes
 pub mod Taking
 pub mod Lists
 pub mod Listing

@@ -4,3 +4,4 @@ pub mod Commits
 pub mod Walks
 pub mod Courses
 pub mod Heads
+pub mod Causes

@@ -2,7 +2,8 @@ use Rattle.std.proofs.Common.{[], inl, le_trans, refl}
 use Rattle.std.proofs.lemmas.Result.{err_from_is_err_and}
 use Rattle.sfx_provider.specs.declared.provider_fault.ProviderFault.TheVariants.{Failed, Memory}
 use Rattle.sfx_apply.proofs.Bringing.{brought_acts, read_state, told_not_ahead}
-use Rattle.sfx_apply.proofs.Exits.{cause_later, if_ok_never, kept_of_stops, ok_never, some_never}
+use Rattle.sfx_provider.proofs.Causes.{cause_later}
+use Rattle.sfx_apply.proofs.Exits.{if_ok_never, kept_of_stops, ok_never, some_never}
 use Rattle.sfx_apply.proofs.Looping.{batch_came, batch_fault, batch_kept, batch_report}
 use Rattle.sfx_apply.proofs.Standing.{on_err_anyhow}
 use Rattle.sfx_apply.proofs.applying.apply_batch.Goals as goal

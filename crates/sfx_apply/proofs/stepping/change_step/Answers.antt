@@ -1,7 +1,8 @@
 use Rattle.std.proofs.Common.{[], inl, refl, le_trans}
 use Rattle.sfx_model.specs.Items.{item_view}
 use Rattle.sfx_apply.specs.Turns.{due_after, end_before, turned}
-use Rattle.sfx_apply.proofs.Exits.{cause_handed, cause_later, if_ok_never, kept_first, ok_never}
+use Rattle.sfx_provider.proofs.Causes.{cause_later}
+use Rattle.sfx_apply.proofs.Exits.{cause_handed, if_ok_never, kept_first, ok_never}
 use Rattle.sfx_apply.proofs.Standing.{on_err_anyhow, same_due, step_came, step_fault, step_kept, step_state, step_work}
 use Rattle.sfx_apply.proofs.stepping.change_step.Goals as goal
 

@@ -2,7 +2,8 @@ use Rattle.std.proofs.Common.{ap, le_refl, le_trans, refl, sym, ◌∙◌}
 use Rattle.sfx_model.specs.Draft.{Draft}
 use Rattle.sfx_model.specs.Items.{item_view}
 use Rattle.sfx_apply.proofs.Entering.{read_turn, spent_turn}
-use Rattle.sfx_apply.proofs.Exits.{cause_handed, cause_later, cause_memory, if_ok_never, ok_never}
+use Rattle.sfx_provider.proofs.Causes.{cause_later}
+use Rattle.sfx_apply.proofs.Exits.{cause_handed, cause_memory, if_ok_never, ok_never}
 use Rattle.sfx_apply.proofs.turn.turn.Goals as goal
 
 pub returns-then-is_spent : goal.returns-then-is_spent

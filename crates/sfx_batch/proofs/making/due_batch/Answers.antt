@@ -1,6 +1,6 @@
 use Rattle.std.proofs.Common.{le_trans, ◌∙◌}
 use Rattle.std.proofs.lemmas.Result.{err_from_is_err_and}
-use Rattle.sfx_batch.proofs.Causes.{cause_later}
+use Rattle.sfx_provider.proofs.Causes.{cause_later}
 use Rattle.sfx_batch.proofs.Due.{right_batch}
 use Rattle.sfx_batch.proofs.making.due_batch.Goals as goal
 use Rattle.sfx_model.specs.Items.{items_view}

@@ -1,7 +1,7 @@
 use Rattle.std.proofs.Common.{◌∙◌, append_assoc, le_trans, sym, arith}
 use Rattle.std.proofs.lemmas.List.{append-nil}
 use Rattle.std.proofs.lemmas.Result.{err_from_is_err_and}
-use Rattle.sfx_batch.proofs.Causes.{cause_later}
+use Rattle.sfx_provider.proofs.Causes.{cause_later}
 use Rattle.sfx_batch.proofs.Listing.{first_is, listed_fewer, listed_on, listed_out, listed_up}
 use Rattle.sfx_batch.proofs.making.ids_in.Goals as goal
 
