@@ -5,10 +5,10 @@ use Rattle.sfx_ids.specs.declared.cut.Cut.TheVariants.{Start, At}
 use Rattle.sfx_ids.specs.declared.item_id.ItemId.{ItemId}
 use Rattle.sfx_ids.specs.Cut.{cut_le}
 use Rattle.sfx_ids.specs.Tick.{max_tick}
-use Rattle.sfx_vector.specs.Clocks.{AreClocks, tick_of}
+use Rattle.sfx_vector.specs.Clocks.{tick_of}
 use Rattle.sfx_knowledge.specs.Row.{row_at}
 use Rattle.sfx_knowledge.specs.Knowledge.{no_row, tick_at}
-use Rattle.sfx_knowledge.specs.Forgotten.{AreForgets, fvec, nothing_forgotten}
+use Rattle.sfx_knowledge.proofs.Forgets.{nothing_form}
 use Rattle.sfx_knowledge.proofs.Known.{IsKnowledge-nothing}
 use Rattle.sfx_item.specs.Decided.{is_clash}
 use Rattle.sfx_model.specs.Acting.{DeedsContinue, IsMemberOf, IsOrderly}
@@ -168,13 +168,6 @@ before_legal = (
 )
 
 -- ---- both members are orderly
-
-no_clocks : (b : Bool) → AreClocks (if b then [] else [])
-no_clocks true = tt
-no_clocks false = tt
-
-nothing_form : AreForgets nothing_forgotten
-nothing_form = record { segments = (refl, tt); clocks = λ place inside. no_clocks (cut_le Start place) }
 
 five_rising : AreRising five.items
 five_rising =

@@ -9,7 +9,7 @@ use Rattle.sfx_ids.specs.Tick.{max_tick}
 use Rattle.sfx_vector.specs.Clocks.{tick_of}
 use Rattle.sfx_segments.specs.Segments.{IsPlace}
 use Rattle.sfx_knowledge.specs.Knowledge.{IsKnowledge, tick_at}
-use Rattle.sfx_knowledge.specs.Forgotten.{fvec}
+use Rattle.sfx_knowledge.specs.Forgotten.{AreForgets, fvec}
 use Rattle.sfx_item.specs.Clash.{Clash}
 use Rattle.sfx_item.specs.Row.{IsRow, first_value}
 use Rattle.sfx_model.specs.World.{IsContained}
@@ -49,7 +49,8 @@ pub record IsConsistent (units : ℕ) (m : Member) : Type 0 where
   -- what is known stands in its one form, and has no entry of the replica itself
   pub knowledge : IsKnowledge units m.knowledge
   pub unstored : (place : Cut) (u : ℕ) → IsPlace place → u < units → tick_at m.knowledge place u m.id ≡ 0
-  -- of its own versions it has forgotten none but made ones
+  -- what is forgotten stands in its one form, and of the replica's own versions none but made ones are forgotten
+  pub forgets : AreForgets m.forgotten
   pub forgotten : (place : Cut) → IsPlace place → tick_of (fvec m.forgotten place) m.id ≤ m.clock
   -- the items are in order of their ids; each is whole, and the replica knows its versions
   pub rising : AreRising m.items

@@ -3,6 +3,7 @@ ghost use Rattle.sfx_ids.specs.declared.item_id.ItemId.{ItemId};
 ghost use Rattle.sfx_knowledge.specs.Knowledge.{tick_at};
 ghost use Rattle.sfx_model.specs.Acting.{DeedsActIn, DeedsContinue, EntryActs, HasTicksLeft, IsDue, IsMemberOf, IsOrderly, KnowsForgotten, LearnsItem, RangeActs, RangeFits, Supplies};
 ghost use Rattle.sfx_model.specs.Batch.{Batch};
+ghost use Rattle.sfx_model.specs.Consistent.{IsConsistent};
 ghost use Rattle.sfx_model.specs.CutRun.{before_cut, contained, created_records, cut_community, cut_deeds, cut_member, cut_world, got, known_names, present_items, world_before};
 ghost use Rattle.sfx_model.specs.Deeds.{batch_deeds, events_with, session_deeds, task_deeds};
 ghost use Rattle.sfx_model.specs.Entry.{Change, Task, Unlisted, task_item, task_plan};
@@ -19,6 +20,12 @@ ghost use Rattle.sfx_model.specs.Snapshots.{Carried};
 ghost use Rattle.sfx_model.specs.States.{ChangesMember};
 ghost use Rattle.sfx_model.specs.World.{IsSound, Snapshot, WellFormed, World, empty_world};
 ghost use Rattle.sfx_model.specs.declared.mode.Mode.TheVariants.{Recover};
+
+/// A member that is consistent has its lists in order, as sessions ask of it, as a law. It does nothing when
+/// called.
+pub fn consistent_members_are_orderly()
+    ensures { (units : ℕ) (m : Member) → IsConsistent units m → IsOrderly units m }
+{}
 
 /// What an applied entry does in every well-formed world, under every rule, as a law: its events may happen
 /// one after another, the world after them is well-formed, and there the destination as the definition of

@@ -3,7 +3,10 @@
 #![tactic(auto)]
 
 pub use absent::Absent;
-pub use acting::{batches_act, cut_run, entries_act, none_is_ahead, ranges_act, sessions_act};
+pub use acting::{
+    batches_act, consistent_members_are_orderly, cut_run, entries_act, none_is_ahead, ranges_act,
+    sessions_act,
+};
 pub use apply_end::ApplyEnd;
 pub use clash_rule::ClashRule;
 pub use entry_kind::EntryKind;

@@ -148,6 +148,7 @@ commits_consistent units c m good known fits =
       knowledge = known.form;
       unstored = λ place u is small.
           known.ticks place u m.id is small ∙ own_tick m.id (tick_at c.knowledge place u m.id);
+      forgets = fits.forgets;
       forgotten = fits.made;
       rising = drops_rising c.drops (put_all c.puts m.items) (puts_rising c.puts m.items good.rising);
       items = λ i state is.

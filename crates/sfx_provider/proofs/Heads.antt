@@ -44,6 +44,7 @@ head_fits units m puts drops good rising known falling present apart names = rec
   most = good.clock;
   own = λ place u is small.
       head_ticks units m good place u m.id is small ∙ own_tick m.id m.clock (tick_at m.knowledge place u m.id);
+  forgets = good.forgets;
   made = good.forgotten;
   puts = rising;
   items = known;

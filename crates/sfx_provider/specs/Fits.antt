@@ -8,7 +8,7 @@ use Rattle.sfx_ids.specs.Tick.{max_tick}
 use Rattle.sfx_vector.specs.Clocks.{tick_of}
 use Rattle.sfx_segments.specs.Segments.{IsPlace}
 use Rattle.sfx_knowledge.specs.Knowledge.{Known, KnowsVersion, tick_at}
-use Rattle.sfx_knowledge.specs.Forgotten.{Forgets, fvec}
+use Rattle.sfx_knowledge.specs.Forgotten.{AreForgets, Forgets, fvec}
 use Rattle.sfx_model.specs.Consistent.{IsItemState, AreApart}
 use Rattle.sfx_model.specs.Headline.{version_at}
 use Rattle.sfx_model.specs.Members.{ItemState, Member, AreIdsRising, AreRising, state_of, vector_at}
@@ -45,7 +45,8 @@ pub record Fits (units : ℕ) (c : CommitData) (m : Member) : Type 0 where
   -- the clock is in range, and it is the own entry of the knowledge
   pub most : c.clock ≤ max_tick
   pub own : HasOwnClock units m.id c.clock c.knowledge
-  -- of the replica's own versions none but made ones are forgotten
+  -- what is forgotten stands in its one form, and of the replica's own versions none but made ones are forgotten
+  pub forgets : AreForgets c.forgotten
   pub made : (place : Cut) → IsPlace place → tick_of (fvec c.forgotten place) m.id ≤ c.clock
   -- the items that are put ascend; each is whole and known
   pub puts : AreRising c.puts

@@ -22,6 +22,7 @@ use Rattle.sfx_item.proofs.Decisions.{name_decided, clash_decided}
 use Rattle.sfx_knowledge.specs.Row.{row_at}
 use Rattle.sfx_knowledge.specs.Forgotten.{Forgets}
 use Rattle.sfx_knowledge.specs.Forms.{with_own}
+use Rattle.sfx_knowledge.proofs.Forgets.{nothing_form}
 use Rattle.sfx_knowledge.specs.Knowledge.{HasTicks, IsKnowledge, Known, laid_over, no_row, tick_at}
 use Rattle.sfx_model.specs.Consistent.{IsConsistent, IsOwned, AreApart, live_name}
 use Rattle.sfx_model.specs.Events.{same_item}
@@ -166,6 +167,7 @@ rises units m items ok room rising owned apart = record {
   clock = omega arith;
   knowledge = ok.knowledge;
   unstored = ok.unstored;
+  forgets = ok.forgets;
   forgotten = λ place is. let low = ok.forgotten place is in omega (arith, low);
   rising = rising;
   items = owned;
@@ -477,6 +479,7 @@ new_consistent units id some fits = record {
   clock = omega arith;
   knowledge = record { segments = (refl, tt); rows = (record { base = tt; others = tt }, tt) };
   unstored = λ place u is small. nowhere_known (cut_le Start place) u id;
+  forgets = nothing_form;
   forgotten = λ place is. let none = nowhere_forgotten (cut_le Start place) id in omega (arith, none);
   rising = tt;
   items = λ i state at. let bad : None ≡ Some state = at in absurd (cc);
