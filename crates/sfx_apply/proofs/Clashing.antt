@@ -12,7 +12,7 @@ use Rattle.sfx_model.specs.Events.{same_item}
 use Rattle.sfx_model.specs.Members.{ItemState, MemberItem, AreRising, state_of}
 use Rattle.sfx_model.specs.Putting.{drop_all, put_all, put_item}
 use Rattle.sfx_model.specs.Readings.{clashing_with, is_clashing, is_in_the_way}
-use Rattle.sfx_model.specs.Renamed.{is_free}
+use Rattle.sfx_model.specs.NewName.{is_free}
 use Rattle.sfx_model.specs.Sets.{Has}
 use Rattle.sfx_model.proofs.Rising.{before_differs, other_item, state_behind, state_below, state_here}
 use Rattle.sfx_model.proofs.Steps.{same_item_is, same_item_self}

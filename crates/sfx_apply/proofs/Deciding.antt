@@ -22,7 +22,7 @@ use Rattle.sfx_model.specs.Entry.{forgets_after, task_plan}
 use Rattle.sfx_model.specs.Knowing.{laid_known}
 use Rattle.sfx_model.specs.Members.{ItemState, Live, Dead, MemberItem, Member, state_of}
 use Rattle.sfx_model.specs.Readings.{clashing_with, is_unseen, knows_version}
-use Rattle.sfx_model.specs.Renamed.{is_free}
+use Rattle.sfx_model.specs.NewName.{is_free}
 use Rattle.sfx_model.specs.Rules.{skip_rules}
 use Rattle.sfx_model.proofs.Learned.{laid_other}
 use Rattle.sfx_provider.specs.Commit.{CommitData, committed}

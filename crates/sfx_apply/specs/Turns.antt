@@ -13,7 +13,7 @@ use Rattle.sfx_model.specs.Entry.{Change, Entry, entry_of, task_plan}
 use Rattle.sfx_model.specs.Items.{item_view}
 use Rattle.sfx_model.specs.Members.{ItemState, MemberItem, Member, state_of}
 use Rattle.sfx_model.specs.Moments.{divides}
-use Rattle.sfx_model.specs.Renamed.{is_free}
+use Rattle.sfx_model.specs.NewName.{is_free}
 use Rattle.sfx_model.specs.Rules.{skip_rules}
 use Rattle.sfx_model.specs.Session.{is_live_state, lefts, reduced, stop_before}
 use Rattle.sfx_model.specs.Sets.{Has}

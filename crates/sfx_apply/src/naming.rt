@@ -8,7 +8,7 @@ ghost use Rattle.sfx_model.specs.Clashes.{drafted_name};
 ghost use Rattle.sfx_model.specs.Items.{item_view, items_view, state_view};
 ghost use Rattle.sfx_model.specs.Members.{state_of};
 ghost use Rattle.sfx_model.specs.Readings.{is_clashing, is_in_the_way};
-ghost use Rattle.sfx_model.specs.Renamed.{is_free};
+ghost use Rattle.sfx_model.specs.NewName.{is_free};
 ghost use Rattle.sfx_provider.specs.Fault.{HasCause};
 
 use crate::puts::put_of;

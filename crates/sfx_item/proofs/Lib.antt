@@ -1,3 +1,4 @@
 pub mod Below
 pub mod Decisions
 pub mod Places
+pub mod Renaming

@@ -1,7 +1,8 @@
-ghost use Rattle.std.specs.Prelude.{◌≡◌, ◌↔◌, ℕ, List, [], ◌∷◌, Some, None, true, false, codes, replicate, IsTrue};
+ghost use Rattle.std.specs.Prelude.{◌≡◌, ◌↔◌, ℕ, ◌++◌, List, [], ◌∷◌, Some, None, true, false, codes, replicate, IsTrue};
 ghost use Rattle.sfx_item.specs.Clash.{Clash};
 ghost use Rattle.sfx_item.specs.Decided.{is_clash, is_wrong_at, name_fault};
 ghost use Rattle.sfx_item.specs.Name.{IsFirstWrong, IsName, IsWrongAt};
+ghost use Rattle.sfx_item.specs.Renamed.{renamed};
 
 /// Nothing is wrong with a name, at any index.
 pub fn nothing_is_wrong_with_names()
@@ -31,4 +32,14 @@ pub fn names_on_examples()
     ensures name { name_fault (codes "a/b.c") ≡ None }
     ensures within { is_clash (codes "dir") (codes "dir/f") ≡ true }
     ensures beside { is_clash (codes "dir") (codes "dir2/f") ≡ false }
+{}
+
+/// New names on small texts.
+pub fn new_names_on_examples()
+    ensures plain { renamed (codes "dir") 1 ≡ codes "dir~1" }
+    ensures marked { renamed (codes "dir~7/f") 2 ≡ codes "dir~2/f" }
+    ensures mark_alone { renamed (codes "~3") 1 ≡ codes "~1" }
+    ensures no_mark { renamed (codes "a~b~") 1 ≡ codes "a~b~~1" }
+    ensures cut_short { renamed (replicate 255 97) 1 ≡ replicate 253 97 ++ codes "~1" }
+    ensures no_room { renamed (97 ∷ 47 ∷ replicate 253 98) 1 ≡ codes "~1" }
 {}

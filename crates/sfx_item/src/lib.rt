@@ -5,7 +5,9 @@ pub use cell::Cell;
 pub use clash::clashes;
 pub use first_wrong::MAX_NAME_LEN;
 pub use item::Item;
-pub use laws::{names_are_decided, names_on_examples, nothing_is_wrong_with_names};
+pub use laws::{
+    names_are_decided, names_on_examples, new_names_on_examples, nothing_is_wrong_with_names,
+};
 pub use name::Name;
 pub use name_fault::NameFault;
 pub use row::Row;

@@ -14,7 +14,7 @@ use Rattle.sfx_model.specs.Clashes.{clash_draft, with_name, plan_among, plan_nam
 use Rattle.sfx_model.specs.Draft.{Draft}
 use Rattle.sfx_model.specs.Members.{ItemState, MemberItem}
 use Rattle.sfx_model.specs.Readings.{clashing_with}
-use Rattle.sfx_model.specs.Renamed.{new_name}
+use Rattle.sfx_model.specs.NewName.{new_name}
 use Rattle.sfx_model.specs.Results.{cell_at}
 use Rattle.sfx_model.specs.Units.{at_unit}
 use Rattle.sfx_model.proofs.PerUnit.{at_set, at_set_other}

@@ -15,7 +15,7 @@ use Rattle.sfx_model.specs.World.{World, Site, Snapshot, WellFormed, IsSoundItem
 use Rattle.sfx_model.specs.Acting.{IsOrderly}
 use Rattle.sfx_model.specs.Members.{Member, MemberItem, ItemState, Live, Dead, AreRising, IsIdBelow, Represents, ItemRepresents, shown, state_of, vector_at}
 use Rattle.sfx_model.specs.Putting.{with_state_of}
-use Rattle.sfx_model.specs.Renamed.{new_name}
+use Rattle.sfx_model.specs.NewName.{new_name}
 use Rattle.sfx_model.specs.Snapshots.{Carried}
 use Rattle.sfx_model.proofs.Headline.{cell_there}
 use Rattle.sfx_model.proofs.Naming.{IsFree}

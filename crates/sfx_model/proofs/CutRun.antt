@@ -1,33 +1,33 @@
 -- The run with a session that is cut.
-use Rattle.std.proofs.Common.{◌≡◌, ◌≢◌, ℕ, ◌+◌, ◌<◌, ◌≤◌, inl, inr, sym, ap, refl, subst, ◌∙◌, Bool, true, false, true≢false, if◌then◌else◌, List, [], ◌∷◌, map, codes, Some, None, get_or, arith, lit≤, lit<}
-use Rattle.sfx_ids.specs.declared.cut.Cut.{Cut}
+use Rattle.std.proofs.Common.{◌≡◌, ◌≢◌, ℕ, ◌+◌, ◌<◌, inl, inr, sym, ap, refl, subst, ◌∙◌, Bool, true, false, if◌then◌else◌, List, [], ◌∷◌, codes, Some, None, get_or, arith, lit≤, lit<}
 use Rattle.sfx_ids.specs.declared.cut.Cut.TheVariants.{Start, At}
 use Rattle.sfx_ids.specs.declared.item_id.ItemId.{ItemId}
 use Rattle.sfx_ids.specs.Cut.{cut_le}
 use Rattle.sfx_ids.specs.Tick.{max_tick}
 use Rattle.sfx_vector.specs.Clocks.{tick_of}
 use Rattle.sfx_knowledge.specs.Row.{row_at}
-use Rattle.sfx_knowledge.specs.Knowledge.{no_row, tick_at}
+use Rattle.sfx_knowledge.specs.Knowledge.{no_row}
 use Rattle.sfx_knowledge.proofs.Forgets.{nothing_form}
 use Rattle.sfx_knowledge.proofs.Known.{IsKnowledge-nothing}
 use Rattle.sfx_item.specs.Decided.{is_clash}
-use Rattle.sfx_model.specs.Acting.{DeedsContinue, IsMemberOf, IsOrderly}
+use Rattle.sfx_model.specs.Acting.{DeedsContinue, IsOrderly}
 use Rattle.sfx_model.specs.Consistent.{AreApart, live_name}
-use Rattle.sfx_model.specs.CutRun.{before_cut, contained, creation, cut_community, cut_deeds, cut_member, cut_world, world_before}
+use Rattle.sfx_model.specs.CutRun.{before_cut, creation, cut_community, cut_deeds, cut_member, world_before}
 use Rattle.sfx_model.specs.declared.clash_rule.ClashRule.TheVariants.{Skip as SkipClash}
 use Rattle.sfx_model.specs.declared.keep.Keep.TheVariants.{Skip}
-use Rattle.sfx_model.specs.Events.{AllLegal, Event, Join, Units, after, after_all}
+use Rattle.sfx_model.specs.Events.{AllLegal, Join, Units, after}
 use Rattle.sfx_model.specs.Headline.{HaveEqualKnowledge}
-use Rattle.sfx_model.specs.Members.{Community, ItemState, Member, MemberItem, NamedMember, AreRising, RepresentsWorld, shown, state_of, vector_at}
+use Rattle.sfx_model.specs.Members.{Community, ItemState, MemberItem, NamedMember, AreRising, RepresentsWorld, shown, vector_at}
 use Rattle.sfx_model.specs.Readings.{clashing_with}
-use Rattle.sfx_model.specs.SessionExamples.{alone, created_of, five, item_of, new, rules_of, segment_of, version_of}
+use Rattle.sfx_model.specs.SessionExamples.{alone, created_of, five, item_of, new, rules_of}
 use Rattle.sfx_model.specs.Sets.{Has}
-use Rattle.sfx_model.specs.States.{ChangesMember, Continues, IsNewState, IsUntaken, KnowsOthersAlike, Rises, next_created, with_item}
+use Rattle.sfx_model.specs.States.{Continues, IsNewState, IsUntaken, next_created, with_item}
 use Rattle.sfx_model.specs.World.{World, WellFormed, empty_world}
 use Rattle.sfx_model.specs.Batch.{batch_from}
 use Rattle.sfx_model.specs.Class.{class_of, absent_class_of}
 use Rattle.sfx_model.specs.Entry.{task_plan, change_others, changed_by, after_task, entry_of}
-use Rattle.sfx_model.specs.Renamed.{renamed, first_free}
+use Rattle.sfx_item.specs.Renamed.{renamed}
+use Rattle.sfx_model.specs.NewName.{first_free}
 use Rattle.std.specs.Fmt.{digits}
 use Rattle.std.specs.Fmt.Cut.{floor_char_boundary}
 use Rattle.sfx_model.specs.Session.{tasks_of, after_range, go, session_from, session_of}

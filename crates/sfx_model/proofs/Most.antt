@@ -1,5 +1,5 @@
 -- The greatest tick that is known or forgotten of a replica, and that it does not pass the replica's clock.
-use Rattle.std.proofs.Common.{◌≡◌, ℕ, zero, suc, ◌+◌, ◌<◌, ◌≤◌, max, Bool, true, false, if◌then◌else◌, nat_eq, nat_lt, inl, inr, arith, refl, sym, ap, subst, ◌∙◌, List, [], ◌∷◌, map, slice_get, Option, Some, None}
+use Rattle.std.proofs.Common.{◌≡◌, ℕ, zero, suc, ◌+◌, ◌<◌, ◌≤◌, Bool, true, false, if◌then◌else◌, nat_eq, nat_lt, inl, inr, arith, refl, sym, ap, subst, ◌∙◌, List, [], ◌∷◌, map, slice_get, Option, Some, None}
 use Rattle.std.specs.List.{flat_map}
 use Rattle.std.proofs.lemmas.Bool.Decides.{nat_tests}
 use Rattle.sfx_ids.specs.declared.cut.Cut.{Cut}

@@ -24,7 +24,7 @@ use Rattle.sfx_model.specs.Entry.{Changing, is_stamped, is_taken, is_gone, cell_
 use Rattle.sfx_model.specs.Members.{ItemState, Live, Dead, MemberItem, AreRising, state_of}
 use Rattle.sfx_model.specs.Putting.{with_state_of}
 use Rattle.sfx_model.specs.Readings.{clashing_with}
-use Rattle.sfx_model.specs.Renamed.{new_name}
+use Rattle.sfx_model.specs.NewName.{new_name}
 use Rattle.sfx_model.specs.Results.{cell_at}
 use Rattle.sfx_model.specs.Units.{each_unit, at_unit}
 use Rattle.sfx_model.proofs.PerUnit.{get_at, get_each, any_none}

@@ -9,7 +9,7 @@ use Rattle.sfx_model.specs.declared.mark.Mark.TheVariants.{Stamped}
 use Rattle.sfx_model.specs.Members.{MemberItem}
 use Rattle.sfx_model.specs.Draft.{Draft, all_marked, all_left}
 use Rattle.sfx_model.specs.Readings.{clashing_with}
-use Rattle.sfx_model.specs.Renamed.{new_name}
+use Rattle.sfx_model.specs.NewName.{new_name}
 
 -- What an entry is to do.
 pub record Plan : Type 0 where

@@ -28,7 +28,7 @@ use Rattle.sfx_model.specs.Clashes.{Plan, plan_of}
 use Rattle.sfx_model.specs.Draft.{Draft, draft_of, absent_draft, cells_of, is_left}
 use Rattle.sfx_model.specs.Knowing.{laid_known, stored_known, joined_forgets}
 use Rattle.sfx_model.specs.Putting.{with_state_of}
-use Rattle.sfx_model.specs.Renamed.{new_name}
+use Rattle.sfx_model.specs.NewName.{new_name}
 use Rattle.sfx_model.specs.Rules.{Rules}
 use Rattle.sfx_model.specs.Units.{each_unit, at_unit}
 

@@ -16,7 +16,7 @@ pub mod Units
 pub mod Rules
 pub mod Class
 pub mod Draft
-pub mod Renamed
+pub mod NewName
 pub mod Clashes
 pub mod Knowing
 pub mod Batch

@@ -18,7 +18,7 @@ pub use results::results_follow;
 pub use session_end::SessionEnd;
 pub use sessions::{
     batches_are_bounded, clashes_on_examples, conflicts_on_examples, knowledge_is_decided,
-    moments_join, new_names_on_examples, sessions_on_examples,
+    moments_join, sessions_on_examples,
 };
 pub use snapshots::{marks_are_legal, snapshots_stay};
 pub use unit_class::UnitClass;

@@ -1,4 +1,4 @@
-ghost use Rattle.std.specs.Prelude.{◌≡◌, ◌++◌, ◌+◌, ◌≤◌, ◌<◌, ◌↔◌, ℕ, IsTrue, length, Option, List, [], ◌∷◌, Some, None, codes, replicate};
+ghost use Rattle.std.specs.Prelude.{◌≡◌, ◌++◌, ◌+◌, ◌≤◌, ◌<◌, ◌↔◌, ℕ, IsTrue, length, Option, List, [], ◌∷◌, Some, None, codes};
 ghost use Rattle.sfx_ids.specs.declared.cut.Cut.TheVariants.{After, End, Start};
 ghost use Rattle.sfx_ids.specs.declared.cut.Cut.{Cut};
 ghost use Rattle.sfx_ids.specs.declared.item_id.ItemId.{ItemId};
@@ -9,7 +9,6 @@ ghost use Rattle.sfx_model.specs.Class.{is_forgotten_within};
 ghost use Rattle.sfx_model.specs.Knowing.{learned_known};
 ghost use Rattle.sfx_model.specs.Members.{Member};
 ghost use Rattle.sfx_model.specs.Moments.{Moment, committed};
-ghost use Rattle.sfx_model.specs.Renamed.{renamed};
 ghost use Rattle.sfx_model.specs.Readings.{items_from};
 ghost use Rattle.sfx_model.specs.Rules.{Rules};
 ghost use Rattle.sfx_model.specs.Session.{Course, ending, session_from};
@@ -82,16 +81,6 @@ pub fn clashes_on_examples()
     ensures rename_items { items_after (collision RenameDestination) ≡ created_of 1 10 (codes "dir") ∷ live_of (item_of 1 11) (version_of 2 11) (codes "dir~1/f") (version_of 1 11) (codes "x") ∷ [] }
     ensures skip { entries_of (collision Skip) ≡ quiet first Skipped Left Left ∷ [] }
     ensures taken_name { entries_of second_collision ≡ entry first Renamed Stamped Taken (Some 3) (Some (codes "dir~2")) [] ∷ [] }
-{}
-
-/// New names on small texts. Nothing happens when this function is called.
-pub fn new_names_on_examples()
-    ensures plain { renamed (codes "dir") 1 ≡ codes "dir~1" }
-    ensures marked { renamed (codes "dir~7/f") 2 ≡ codes "dir~2/f" }
-    ensures mark_alone { renamed (codes "~3") 1 ≡ codes "~1" }
-    ensures no_mark { renamed (codes "a~b~") 1 ≡ codes "a~b~~1" }
-    ensures cut_short { renamed (replicate 255 97) 1 ≡ replicate 253 97 ++ codes "~1" }
-    ensures no_room { renamed (97 ∷ 47 ∷ replicate 253 98) 1 ≡ codes "~1" }
 {}
 
 /// A session takes at most as many batches as its source has items, and one more: the bound of its

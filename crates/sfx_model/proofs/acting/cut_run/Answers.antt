@@ -2,7 +2,8 @@ use Rattle.std.proofs.Common.{refl}
 use Rattle.sfx_model.specs.Batch.{batch_from}
 use Rattle.sfx_model.specs.Class.{class_of, absent_class_of}
 use Rattle.sfx_model.specs.Entry.{task_plan, change_others, changed_by, after_task, entry_of}
-use Rattle.sfx_model.specs.Renamed.{renamed, first_free}
+use Rattle.sfx_item.specs.Renamed.{renamed}
+use Rattle.sfx_model.specs.NewName.{first_free}
 use Rattle.std.specs.Fmt.{digits}
 use Rattle.std.specs.Fmt.Cut.{floor_char_boundary}
 use Rattle.sfx_model.specs.Session.{tasks_of, after_range, go, session_from, session_of}

@@ -1,8 +1,8 @@
 use Rattle.std.proofs.Common.{refl}
 use Rattle.std.specs.Fmt.{digits}
 use Rattle.std.specs.Fmt.Cut.{floor_char_boundary}
-use Rattle.sfx_model.specs.Renamed.{renamed}
-use Rattle.sfx_model.proofs.sessions.new_names_on_examples.Goals as goal
+use Rattle.sfx_item.specs.Renamed.{renamed}
+use Rattle.sfx_item.proofs.laws.new_names_on_examples.Goals as goal
 
 pub returns-clause-plain : goal.returns-clause-plain
 unfolding renamed floor_char_boundary digits

@@ -1,13 +1,9 @@
--- New names for items whose names clash.
-use Rattle.std.specs.Prelude.{ℕ, zero, suc, ◌+◌, ◌-◌, Bool, false, ◌&&◌, if◌then◌else◌, nat_eq, nat_le, min, List, [], ◌∷◌, ◌++◌, length, take, drop, decimal, Some}
+-- Names with a mark at the end of their first component.
+use Rattle.std.specs.Prelude.{ℕ, ◌+◌, ◌-◌, Bool, false, ◌&&◌, if◌then◌else◌, nat_eq, nat_le, min, List, [], ◌∷◌, ◌++◌, length, take, drop, decimal}
 use Rattle.std.specs.List.{before_first, list_all}
 use Rattle.std.specs.Int.{is_in_range}
 use Rattle.std.specs.Fmt.Cut.{floor_char_boundary}
-use Rattle.sfx_ids.specs.declared.item_id.ItemId.{ItemId}
 use Rattle.sfx_item.specs.Name.{slash}
-use Rattle.sfx_model.specs.Headline.{live_items}
-use Rattle.sfx_model.specs.Members.{MemberItem}
-use Rattle.sfx_model.specs.Readings.{clashing_with}
 
 -- The byte `~`, with which a mark begins.
 abbrev pub tilde : ℕ
@@ -53,18 +49,3 @@ unfoldable pub renamed : List ℕ → ℕ → List ℕ
 renamed name n =
     let first = before_first (λ b. nat_eq b slash) name in
     within_size (without_mark first) (mark_of n) (drop (length first) name)
-
--- No other live item's name clashes with this one.
-abbrev pub is_free : List MemberItem → ItemId → List ℕ → Bool
-is_free items i name = nat_eq (length (clashing_with name (Some i) items)) 0
-
--- The first of so many numbers from this one on whose mark makes a name that is free.
-unfoldable pub first_free : List MemberItem → ItemId → List ℕ → ℕ → ℕ → ℕ
-first_free items i name n zero = n
-first_free items i name n (suc more) =
-    if is_free items i (renamed name n) then n else first_free items i name (n + 1) more
-
--- The new name of the item: that of the least number from 1 on that clashes with no other live item's.
--- Each of these rules one number out at most, so one of the first numbers is free.
-abbrev pub new_name : List MemberItem → ItemId → List ℕ → List ℕ
-new_name items i name = renamed name (first_free items i name 1 (length (live_items items) + 1))
