@@ -217,12 +217,11 @@ made_batch units size m mode known from head to changes here is ends are lists =
 pub right_batch :
     (units size : ℕ) (m : Member) (mode : Mode) (known : Known) (from : Cut)
     (head : HeadData) (to : Cut) (changes : List MemberItem) (here : List ItemId)
-    → IsConsistent units m → AreForgets head.forgotten → IsPlace from
+    → IsConsistent units m → IsPlace from
     → head ≡ head_of units m → to ≡ due_end units size known from m.items
     → changes ≡ due units size known from m.items → here ≡ listed_ids mode from to m.items
     → IsBatch units (made_of head mode from to changes here)
-right_batch units size m mode known from head to changes here good forgets place is ends are lists =
+right_batch units size m mode known from head to changes here good place is ends are lists =
     subst (λ (b : Batch). IsBatch units b)
     (sym (made_batch units size m mode known from head to changes here is ends are lists))
-    (batch_is units size m mode known from good
-    (subst AreForgets (ap (λ (h : HeadData). h.forgotten) is) forgets) place)
+    (batch_is units size m mode known from good good.forgets place)

@@ -1,11 +1,12 @@
 ghost use Rattle.std.specs.Option.{option_map};
-ghost use Rattle.std.specs.Prelude.{◌≡◌, ◌≤◌, [], if◌then◌else◌, nat_lt, length, take, IfOk};
-ghost use Rattle.sfx_batch.specs.Fault.{HasCause as HasBatchCause};
+ghost use Rattle.std.specs.Prelude.{◌≡◌, ◌≤◌, if◌then◌else◌, nat_lt, length, take, IfOk};
+ghost use Rattle.sfx_batch.specs.Fault.{blames_source};
 ghost use Rattle.sfx_ids.specs.declared.cut.Cut.TheVariants.{End};
 ghost use Rattle.sfx_model.specs.Batch.{batch_from, due, due_end, ids_in, listed_ids, place_behind};
 ghost use Rattle.sfx_model.specs.Items.{items_view};
 ghost use Rattle.sfx_model.specs.Readings.{first_from};
-ghost use Rattle.sfx_provider.specs.Fault.{HasCause};
+ghost use Rattle.sfx_provider.specs.Fault.{HasCause, blames_storage};
+ghost use Rattle.sfx_provider.specs.Leaves.{Rests};
 ghost use Rattle.sfx_segments.specs.Segments.{IsPlace};
 
 use crate::{Batch, BatchFault};
@@ -34,10 +35,8 @@ pub fn make_batch<const U: usize, P: Provider<U>>(
     requires size { 1 ≤ size }
     requires place { IsPlace from.now }
     ensures value { IfOk result (λ b. b ≡ batch_from U (P.state source.old) mode size known.now from.now) }
-    ensures state { P.state source.new ≡ P.state source.old }
-    ensures kept { P.kept source.new ≡ P.kept source.old }
-    ensures came { P.came source.old source.new [] }
-    ensures cause { HasBatchCause (P.faults source.old) (P.faults source.new) result }
+    ensures rests { Rests P.state P.kept P.settled P.came source.old source.new }
+    ensures cause { HasCause blames_source (P.faults source.old) (P.faults source.new) result }
 {
     match due_batch(alloc, source, known, from, size, mode) {
         Ok(batch) => Ok(batch),
@@ -58,10 +57,8 @@ fn due_batch<const U: usize, P: Provider<U>>(
 ) -> Result<Batch<U>, ProviderFault>
     requires place { IsPlace from.now }
     ensures value { IfOk result (λ b. b ≡ batch_from U (P.state source.old) mode size known.now from.now) }
-    ensures state { P.state source.new ≡ P.state source.old }
-    ensures kept { P.kept source.new ≡ P.kept source.old }
-    ensures came { P.came source.old source.new [] }
-    ensures cause { HasCause (P.faults source.old) (P.faults source.new) result }
+    ensures rests { Rests P.state P.kept P.settled P.came source.old source.new }
+    ensures cause { HasCause blames_storage (P.faults source.old) (P.faults source.new) result }
 {
     source.keeps();
     let Head {
@@ -72,7 +69,6 @@ fn due_batch<const U: usize, P: Provider<U>>(
     } = source.head(alloc)?;
     let (changes, to) = due_changes(alloc, source, known, from, size)?;
     let here = listed_ids(alloc, source, mode, from, &to)?;
-    forgotten.vector();
     Ok(Batch {
         source: id,
         mode,
@@ -95,10 +91,8 @@ fn due_changes<const U: usize, P: Provider<U>>(
 ) -> Result<(Vec<Item<U>>, Cut), ProviderFault>
     ensures changes { IfOk result (λ r. items_view r.0.items ≡ due U size known.now from.now (P.state source.old).items) }
     ensures end { IfOk result (λ r. r.1 ≡ due_end U size known.now from.now (P.state source.old).items) }
-    ensures state { P.state source.new ≡ P.state source.old }
-    ensures kept { P.kept source.new ≡ P.kept source.old }
-    ensures came { P.came source.old source.new [] }
-    ensures cause { HasCause (P.faults source.old) (P.faults source.new) result }
+    ensures rests { Rests P.state P.kept P.settled P.came source.old source.new }
+    ensures cause { HasCause blames_storage (P.faults source.old) (P.faults source.new) result }
 {
     let mut changes = source.unseen(alloc, known, from, size.saturating_add(1))?;
     let to = cut_short(&mut changes, size);
@@ -109,7 +103,8 @@ fn due_changes<const U: usize, P: Provider<U>>(
 /// else the end.
 fn cut_short<const U: usize>(items: &mut Vec<Item<U>>, size: usize) -> Cut
     ensures items { items.new.items ≡ take size items.old.items }
-    ensures end { result ≡ (if nat_lt size (length items.old.items) then place_behind End (items_view (take size items.old.items)) else End) }
+    ensures end { result ≡ (if nat_lt size (length items.old.items)
+        then place_behind End (items_view (take size items.old.items)) else End) }
 {
     if items.len() <= size {
         return Cut::End;
@@ -137,10 +132,8 @@ fn listed_ids<const U: usize, P: Provider<U>>(
     to: &Cut,
 ) -> Result<Vec<ItemId>, ProviderFault>
     ensures value { IfOk result (λ ids. ids.items ≡ listed_ids mode from.now to.now (P.state source.old).items) }
-    ensures state { P.state source.new ≡ P.state source.old }
-    ensures kept { P.kept source.new ≡ P.kept source.old }
-    ensures came { P.came source.old source.new [] }
-    ensures cause { HasCause (P.faults source.old) (P.faults source.new) result }
+    ensures rests { Rests P.state P.kept P.settled P.came source.old source.new }
+    ensures cause { HasCause blames_storage (P.faults source.old) (P.faults source.new) result }
 {
     match mode {
         Mode::Normal => Ok(Vec::new(alloc)),
@@ -156,10 +149,8 @@ fn ids_in<const U: usize, P: Provider<U>>(
     to: &Cut,
 ) -> Result<Vec<ItemId>, ProviderFault>
     ensures value { IfOk result (λ ids. ids.items ≡ ids_in from.now to.now (P.state source.old).items) }
-    ensures state { P.state source.new ≡ P.state source.old }
-    ensures kept { P.kept source.new ≡ P.kept source.old }
-    ensures came { P.came source.old source.new [] }
-    ensures cause { HasCause (P.faults source.old) (P.faults source.new) result }
+    ensures rests { Rests P.state P.kept P.settled P.came source.old source.new }
+    ensures cause { HasCause blames_storage (P.faults source.old) (P.faults source.new) result }
 {
     source.keeps();
     let mut ids = Vec::new(alloc);
@@ -181,10 +172,8 @@ fn next_id<const U: usize, P: Provider<U>>(
     place: &Cut,
 ) -> Result<Option<ItemId>, ProviderFault>
     ensures value { IfOk result (λ id. id ≡ option_map (λ x. x.id) (first_from place.now (P.state source.old).items)) }
-    ensures state { P.state source.new ≡ P.state source.old }
-    ensures kept { P.kept source.new ≡ P.kept source.old }
-    ensures came { P.came source.old source.new [] }
-    ensures cause { HasCause (P.faults source.old) (P.faults source.new) result }
+    ensures rests { Rests P.state P.kept P.settled P.came source.old source.new }
+    ensures cause { HasCause blames_storage (P.faults source.old) (P.faults source.new) result }
 {
     match source.next_from(alloc, place)? {
         Some(item) => Ok(Some(item.id)),

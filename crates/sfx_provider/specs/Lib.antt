@@ -5,3 +5,5 @@ pub mod Fault
 pub mod Exact
 pub mod Walk
 pub mod Course
+pub mod Leaves
+pub mod Answer

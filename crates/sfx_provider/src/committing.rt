@@ -1,6 +1,7 @@
-ghost use Rattle.std.specs.Prelude.{◌≡◌, IfSome, OnOk, OnErr};
-ghost use Rattle.sfx_provider.specs.Course.{AllFit, CameInPart, committed_all, states_after};
-ghost use Rattle.sfx_provider.specs.Fault.{HasCause};
+ghost use Rattle.std.specs.Prelude.{◌∷◌, OnOk, OnErr};
+ghost use Rattle.sfx_provider.specs.Course.{AllFit, committed_all, states_after};
+ghost use Rattle.sfx_provider.specs.Fault.{HasCause, blames_storage};
+ghost use Rattle.sfx_provider.specs.Leaves.{Arrives, BreaksOff};
 
 use crate::{Commit, Provider, ProviderFault};
 
@@ -8,18 +9,19 @@ use crate::{Commit, Provider, ProviderFault};
 ///
 /// # Errors
 /// `Failed`, only where the provider's count of faults rose, and `Memory`. The first commits are made then,
-/// perhaps none, and the next one may have broken off.
+/// perhaps none, and the next one may have broken off; what is kept is the state before or after one of them.
 pub fn commit_all<const U: usize, P: Provider<U>>(
     provider: &mut P,
     commits: &[Commit<U>],
 ) -> Result<(), ProviderFault>
-    requires told { IfSome (P.kept provider.old) (λ k. k ≡ P.state provider.old) }
+    requires settled { P.settled provider.old }
     requires fit { AllFit U commits.now (P.state provider.old) }
-    ensures ok { OnOk result (P.state provider.new ≡ committed_all U commits.now (P.state provider.old)) }
-    ensures kept_ok { OnOk result (IfSome (P.kept provider.new) (λ k. k ≡ P.state provider.new)) }
-    ensures came { OnOk result (P.came provider.old provider.new (states_after U commits.now (P.state provider.old))) }
-    ensures err { OnErr result (CameInPart P.came P.broke provider.old provider.new (states_after U commits.now (P.state provider.old))) }
-    ensures cause { HasCause (P.faults provider.old) (P.faults provider.new) result }
+    ensures arrives { let first = P.state provider.old in
+        OnOk result (Arrives P.state P.kept P.settled P.came provider.old provider.new
+        (states_after U commits.now first) (committed_all U commits.now first)) }
+    ensures breaks_off { let states = states_after U commits.now (P.state provider.old) in
+        OnErr result (BreaksOff P.kept P.came P.broke provider.old provider.new states (P.state provider.old ∷ states)) }
+    ensures cause { HasCause blames_storage (P.faults provider.old) (P.faults provider.new) result }
 {
     'commits: for commit in commits {
         provider.commit(commit)?;

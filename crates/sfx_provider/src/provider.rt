@@ -5,9 +5,10 @@ ghost use Rattle.sfx_model.specs.Items.{item_view, items_view, state_view};
 ghost use Rattle.sfx_model.specs.Members.{Member, state_of};
 ghost use Rattle.sfx_model.specs.Readings.{clashing_with, first_from, unseen};
 ghost use Rattle.sfx_provider.specs.Commit.{committed};
-ghost use Rattle.sfx_provider.specs.Fault.{HasCause};
+ghost use Rattle.sfx_provider.specs.Fault.{HasCause, blames_storage};
 ghost use Rattle.sfx_provider.specs.Fits.{Fits};
 ghost use Rattle.sfx_provider.specs.Head.{head_of};
+ghost use Rattle.sfx_provider.specs.Leaves.{Arrives, BreaksOff, Rests};
 
 use crate::{Commit, Head, ProviderFault};
 use sfx_ids::{Cut, ItemId, ReplicaId};
@@ -19,15 +20,20 @@ use std::alloc::Global;
 /// commits. A provider may tell, to proofs alone, the state that its storage keeps; it counts its faults, up
 /// to the greatest `u64`.
 ///
-/// A call that reads leaves the state and the kept state as they are, whatever it answers. After a commit
-/// that did not answer Ok the kept state may differ from the state; the provider takes no further commit
-/// then, and has to be opened again.
+/// A call that reads leaves the state and the kept state as they are, whatever it answers, and a settled
+/// provider settled. Only a settled provider takes a commit, and it is settled after Ok. After a commit that did
+/// not answer Ok it may be settled no more, and then has to be opened again. Whether a provider tells what its
+/// storage keeps never changes.
 pub trait Provider<const U: usize> {
     // The replica's state.
     ghost state: { Self → Member };
 
     // The state that the storage keeps, where the provider tells it.
     ghost kept: { Self → Option Member };
+
+    // The storage keeps the state, where the provider tells what it keeps, and what the provider knows of its
+    // storage besides is so.
+    ghost settled: { Self → Type 0 };
 
     // How many calls have failed.
     ghost faults: { Self → ℕ };
@@ -54,10 +60,8 @@ pub trait Provider<const U: usize> {
     /// `Failed`, only where the count of faults rose, and `Memory`.
     fn head(&mut self, alloc: Global) -> Result<Head<U>, ProviderFault>
         ensures value { IfOk result (λ head. head ≡ head_of U (state self.old)) }
-        ensures state { state self.new ≡ state self.old }
-        ensures kept { kept self.new ≡ kept self.old }
-        ensures came { came self.old self.new [] }
-        ensures cause { HasCause (faults self.old) (faults self.new) result };
+        ensures rests { Rests state kept settled came self.old self.new }
+        ensures cause { HasCause blames_storage (faults self.old) (faults self.new) result };
 
     /// The item with this id, or `None` where the replica holds none.
     ///
@@ -66,10 +70,8 @@ pub trait Provider<const U: usize> {
     fn item(&mut self, alloc: Global, id: &ItemId) -> Result<Option<Item<U>>, ProviderFault>
         ensures value { IfOk result (λ item. option_map (λ x. state_view x.state) item ≡ state_of (state self.old).items id.now) }
         ensures same { IfOk result (λ item. IfSome item (λ x. x.id ≡ id.now)) }
-        ensures state { state self.new ≡ state self.old }
-        ensures kept { kept self.new ≡ kept self.old }
-        ensures came { came self.old self.new [] }
-        ensures cause { HasCause (faults self.old) (faults self.new) result };
+        ensures rests { Rests state kept settled came self.old self.new }
+        ensures cause { HasCause blames_storage (faults self.old) (faults self.new) result };
 
     /// The first item whose place is not before `from`, or `None` where there is none.
     ///
@@ -77,10 +79,8 @@ pub trait Provider<const U: usize> {
     /// `Failed`, only where the count of faults rose, and `Memory`.
     fn next_from(&mut self, alloc: Global, from: &Cut) -> Result<Option<Item<U>>, ProviderFault>
         ensures value { IfOk result (λ item. option_map item_view item ≡ first_from from.now (state self.old).items) }
-        ensures state { state self.new ≡ state self.old }
-        ensures kept { kept self.new ≡ kept self.old }
-        ensures came { came self.old self.new [] }
-        ensures cause { HasCause (faults self.old) (faults self.new) result };
+        ensures rests { Rests state kept settled came self.old self.new }
+        ensures cause { HasCause blames_storage (faults self.old) (faults self.new) result };
 
     /// The ids of the live items but the excepted one whose names clash with this one, ascending.
     ///
@@ -93,10 +93,8 @@ pub trait Provider<const U: usize> {
         except: &ItemId,
     ) -> Result<Vec<ItemId>, ProviderFault>
         ensures value { IfOk result (λ ids. ids.items ≡ clashing_with name.now (Some except.now) (state self.old).items) }
-        ensures state { state self.new ≡ state self.old }
-        ensures kept { kept self.new ≡ kept self.old }
-        ensures came { came self.old self.new [] }
-        ensures cause { HasCause (faults self.old) (faults self.new) result };
+        ensures rests { Rests state kept settled came self.old self.new }
+        ensures cause { HasCause blames_storage (faults self.old) (faults self.new) result };
 
     /// The first `limit` items, from those whose place is not before `from`, with a unit whose version `to`
     /// does not contain.
@@ -111,10 +109,8 @@ pub trait Provider<const U: usize> {
         limit: usize,
     ) -> Result<Vec<Item<U>>, ProviderFault>
         ensures value { IfOk result (λ items. items_view items.items ≡ take limit (unseen U to.now from.now (state self.old).items)) }
-        ensures state { state self.new ≡ state self.old }
-        ensures kept { kept self.new ≡ kept self.old }
-        ensures came { came self.old self.new [] }
-        ensures cause { HasCause (faults self.old) (faults self.new) result };
+        ensures rests { Rests state kept settled came self.old self.new }
+        ensures cause { HasCause blames_storage (faults self.old) (faults self.new) result };
 
     /// Changes the state as the commit says. All else of it stays.
     ///
@@ -122,15 +118,16 @@ pub trait Provider<const U: usize> {
     /// `Failed`, only where the count of faults rose, and `Memory`. The state is then the old one or the one
     /// that Ok would have given, and so is the kept state, where it is told.
     fn commit(&mut self, commit: &Commit<U>) -> Result<(), ProviderFault>
-        requires told { IfSome (kept self.old) (λ k. k ≡ state self.old) }
+        requires settled { settled self.old }
         requires fits { Fits U commit.now (state self.old) }
-        ensures ok { OnOk result (state self.new ≡ committed U commit.now (state self.old)) }
-        ensures kept_ok { OnOk result (IfSome (kept self.new) (λ k. k ≡ state self.new)) }
-        ensures came { OnOk result (came self.old self.new (committed U commit.now (state self.old) ∷ [])) }
+        ensures arrives { let next = committed U commit.now (state self.old) in
+            OnOk result (Arrives state kept settled came self.old self.new (next ∷ []) next) }
         ensures broke { OnErr result (broke self.old self.new (committed U commit.now (state self.old))) }
-        ensures state_err { OnErr result ((state self.new ≡ state self.old) ⊎ (state self.new ≡ committed U commit.now (state self.old))) }
-        ensures kept_err { OnErr result (IfSome (kept self.new) (λ k. (k ≡ state self.old) ⊎ (k ≡ committed U commit.now (state self.old)))) }
-        ensures cause { HasCause (faults self.old) (faults self.new) result };
+        ensures state_err { let next = committed U commit.now (state self.old) in
+            OnErr result ((state self.new ≡ state self.old) ⊎ (state self.new ≡ next)) }
+        ensures breaks_off { let next = committed U commit.now (state self.old) in
+            OnErr result (BreaksOff kept came broke self.old self.new (next ∷ []) (state self.old ∷ next ∷ [])) }
+        ensures cause { HasCause blames_storage (faults self.old) (faults self.new) result };
 
     // A value came from itself by no state.
     ghost came_self: { (p : Self) → came p p [] };
@@ -140,4 +137,7 @@ pub trait Provider<const U: usize> {
 
     // Readings before a stretch do not change by which states it came.
     ghost came_read: { (p q r : Self) (xs : List Member) → came p q [] → came q r xs → came p r xs };
+
+    // A settled provider that tells what it keeps keeps its state.
+    ghost settled_kept: { (p : Self) → settled p → IfSome (kept p) (λ k. k ≡ state p) };
 }

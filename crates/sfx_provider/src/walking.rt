@@ -1,6 +1,7 @@
-ghost use Rattle.std.specs.Prelude.{◌≡◌, [], IfOk};
+ghost use Rattle.std.specs.Prelude.{◌≡◌, IfOk};
 ghost use Rattle.sfx_model.specs.Items.{items_view};
-ghost use Rattle.sfx_provider.specs.Fault.{HasCause};
+ghost use Rattle.sfx_provider.specs.Fault.{HasCause, blames_storage};
+ghost use Rattle.sfx_provider.specs.Leaves.{Rests};
 
 use crate::{Provider, ProviderFault};
 use sfx_ids::Cut;
@@ -16,10 +17,8 @@ pub fn all_items<const U: usize, P: Provider<U>>(
     provider: &mut P,
 ) -> Result<Vec<Item<U>>, ProviderFault>
     ensures value { IfOk result (λ items. items_view items.items ≡ (P.state provider.old).items) }
-    ensures state { P.state provider.new ≡ P.state provider.old }
-    ensures kept { P.kept provider.new ≡ P.kept provider.old }
-    ensures came { P.came provider.old provider.new [] }
-    ensures cause { HasCause (P.faults provider.old) (P.faults provider.new) result }
+    ensures rests { Rests P.state P.kept P.settled P.came provider.old provider.new }
+    ensures cause { HasCause blames_storage (P.faults provider.old) (P.faults provider.new) result }
 {
     provider.keeps();
     let mut items = Vec::new(alloc);

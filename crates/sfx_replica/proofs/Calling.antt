@@ -20,7 +20,7 @@ module _ {A B : Type 0} (old new : ProviderState) where
 
   -- both calls go on
   pub reads_ok : (x : A) (y : B) → Reads old new (Ok x) → Reads old new (Ok y)
-  reads_ok x y r = record { counts = counts_ok x y r.counts; state = r.state }
+  reads_ok x y r = record { counts = counts_ok x y r.counts; rests = r.rests }
 
   counts_failed : (fault : ProviderFault) → Counts {T = A} old new (Err fault) → Counts {T = B} old new (Err fault)
   counts_failed Failed c = record {
@@ -44,7 +44,7 @@ module _ {A B : Type 0} (old new : ProviderState) where
       → answer ≡ Err fault → fault ≡ other → Reads {T = A} old new (Err other) → Reads old new answer
   reads_failed answer fault other is same r =
       subst (Reads old new) (sym is)
-      (subst (λ (f : ProviderFault). Reads {T = B} old new (Err f)) (sym same) (record { counts = counts_failed other r.counts; state = r.state }))
+      (subst (λ (f : ProviderFault). Reads {T = B} old new (Err f)) (sym same) (record { counts = counts_failed other r.counts; rests = r.rests }))
 
   counts_memory : (x : A) → Counts old new (Ok x) → Counts {T = B} old new (Err Memory)
   counts_memory x c = record {
@@ -52,7 +52,7 @@ module _ {A B : Type 0} (old new : ProviderState) where
     list = c.list;
     calls = c.calls;
     faults = c.faults;
-    cause = c.cause;
+    cause = (c.cause, tt);
   }
 
   -- the first call went on, and memory ran out then
@@ -61,4 +61,4 @@ module _ {A B : Type 0} (old new : ProviderState) where
       → answer ≡ Err fault → fault ≡ Memory → Reads old new (Ok x) → Reads old new answer
   reads_memory x answer fault is same r =
       subst (Reads old new) (sym is)
-      (subst (λ (f : ProviderFault). Reads {T = B} old new (Err f)) (sym same) (record { counts = counts_memory x r.counts; state = r.state }))
+      (subst (λ (f : ProviderFault). Reads {T = B} old new (Err f)) (sym same) (record { counts = counts_memory x r.counts; rests = r.rests }))

@@ -1,9 +1,10 @@
 -- A provider in memory, as plain data, and what a call does to it.
-use Rattle.std.specs.Prelude.{◌≡◌, ℕ, ◌<◌, ◌^◌, List, [], Contains, Result, Ok, Err, IsErrOf, ◌↔◌}
+use Rattle.std.specs.Prelude.{◌≡◌, ℕ, ◌<◌, ◌^◌, List, [], Contains, Option, Some, Result, Ok, Err, IsErrOf, ◌↔◌}
 use Rattle.sfx_model.specs.Consistent.{IsConsistent}
 use Rattle.sfx_model.specs.Members.{Member}
 use Rattle.sfx_outside.specs.Fault.{counted}
-use Rattle.sfx_provider.specs.Fault.{HasCause}
+use Rattle.sfx_provider.specs.Fault.{HasCause, blames_storage}
+use Rattle.sfx_provider.specs.Leaves.{Rests}
 use Rattle.sfx_provider.specs.declared.provider_fault.ProviderFault.{ProviderFault}
 use Rattle.sfx_provider.specs.declared.provider_fault.ProviderFault.TheVariants.{Failed, Memory}
 
@@ -27,6 +28,23 @@ pub record IsProvider (units : ℕ) (p : ProviderState) : Type 0 where
 abbrev pub FailAlike : ProviderState → ProviderState → Type 0
 FailAlike p q = q.fails ≡ p.fails
 
+-- The members of the provider: its storage is the replica itself, and so it is always settled; of what it came
+-- by it says that it fails at the same calls.
+abbrev pub member_of : ProviderState → Member
+member_of p = p.member
+
+abbrev pub kept_by : ProviderState → Option Member
+kept_by p = Some p.member
+
+abbrev pub IsSettled : ProviderState → Type 0
+IsSettled p = Unit {0}
+
+abbrev pub CameBy : ProviderState → ProviderState → List Member → Type 0
+CameBy p q states = FailAlike p q
+
+abbrev pub BrokeAt : ProviderState → ProviderState → Member → Type 0
+BrokeAt p q state = FailAlike p q
+
 -- The next call is one of those that fail.
 abbrev pub FailsNext : ProviderState → Type 0
 FailsNext p = Contains p.fails (counted p.calls)
@@ -44,9 +62,9 @@ pub record Counts {T : Type 0} (old new : ProviderState) (result : Result T Prov
   pub list : FailAlike old new
   pub calls : new.calls ≡ counted old.calls
   pub faults : new.faults ≡ faults_after old.faults result
-  pub cause : HasCause old.faults new.faults result
+  pub cause : HasCause blames_storage old.faults new.faults result
 
 -- What a call that reads does: the replica's state stays.
 pub record Reads {T : Type 0} (old new : ProviderState) (result : Result T ProviderFault) : Type 0 where
   pub counts : Counts old new result
-  pub state : new.member ≡ old.member
+  pub rests : Rests member_of kept_by IsSettled CameBy old new

@@ -1,4 +1,4 @@
-ghost use Rattle.std.specs.Prelude.{◌≡◌, ◌⊎◌, Some, take, IfOk, IfSome, OnOk, OnErr};
+ghost use Rattle.std.specs.Prelude.{◌≡◌, ◌⊎◌, ◌∷◌, [], Some, take, IfOk, IfSome, OnOk, OnErr};
 ghost use Rattle.std.specs.Option.{option_map};
 ghost use Rattle.sfx_model.specs.Items.{item_view, items_view, state_view};
 ghost use Rattle.sfx_model.specs.Members.{state_of};
@@ -6,6 +6,7 @@ ghost use Rattle.sfx_model.specs.Readings.{clashing_with, first_from, unseen};
 ghost use Rattle.sfx_provider.specs.Commit.{committed};
 ghost use Rattle.sfx_provider.specs.Fits.{Fits};
 ghost use Rattle.sfx_provider.specs.Head.{head_of};
+ghost use Rattle.sfx_provider.specs.Leaves.{Arrives, BreaksOff};
 ghost use Rattle.sfx_replica.specs.MemoryProvider.{Counts, IsProvider, Reads};
 
 use crate::Replica;
@@ -70,23 +71,27 @@ impl<const U: usize> MemoryProvider<U> {
 impl<const U: usize> Provider<U> for MemoryProvider<U> {
     ghost use Rattle.std.proofs.Common.{◌∙◌};
     ghost use Rattle.std.specs.Prelude.{refl};
-    ghost use Rattle.sfx_replica.specs.MemoryProvider.{FailAlike};
+    ghost use Rattle.sfx_replica.specs.MemoryProvider.{BrokeAt, CameBy, FailAlike, IsSettled, kept_by, member_of};
 
-    ghost state = { λ p. p.member };
+    ghost state = { member_of };
 
-    ghost kept = { λ p. Some p.member };
+    ghost kept = { kept_by };
+
+    ghost settled = { IsSettled };
 
     ghost faults = { λ p. p.faults };
 
-    ghost came = { λ p q states. FailAlike p q };
+    ghost came = { CameBy };
 
-    ghost broke = { λ p q state. FailAlike p q };
+    ghost broke = { BrokeAt };
 
     ghost came_self = { λ p. refl };
 
     ghost came_on = { λ p q r xs ys first second. second ∙ first };
 
     ghost came_read = { λ p q r xs first second. second ∙ first };
+
+    ghost settled_kept = { λ p settled. refl };
 
     fn keeps(&self) {
         self.replica.id();
@@ -153,11 +158,13 @@ impl<const U: usize> Provider<U> for MemoryProvider<U> {
         ensures counts { Counts self.old self.new result }
         ensures ok { OnOk result (self.new.member ≡ committed U commit.now self.old.member) }
         ensures err { OnErr result (self.new.member ≡ self.old.member) }
-        ensures kept_ok { OnOk result (IfSome (Some self.new.member) (λ k. k ≡ self.new.member)) }
-        ensures came { OnOk result (FailAlike self.old self.new) }
+        ensures arrives { let next = committed U commit.now self.old.member in
+            OnOk result (Arrives member_of kept_by IsSettled CameBy self.old self.new (next ∷ []) next) }
         ensures broke { OnErr result (FailAlike self.old self.new) }
-        ensures state_err { OnErr result ((self.new.member ≡ self.old.member) ⊎ (self.new.member ≡ committed U commit.now self.old.member)) }
-        ensures kept_err { OnErr result (IfSome (Some self.new.member) (λ k. (k ≡ self.old.member) ⊎ (k ≡ committed U commit.now self.old.member))) }
+        ensures state_err { let next = committed U commit.now self.old.member in
+            OnErr result ((self.new.member ≡ self.old.member) ⊎ (self.new.member ≡ next)) }
+        ensures breaks_off { let next = committed U commit.now self.old.member in
+            OnErr result (BreaksOff kept_by CameBy BrokeAt self.old self.new (next ∷ []) (self.old.member ∷ next ∷ [])) }
     {
         self.begin()?;
         Ok(self.replica.install(commit)?)

@@ -1,5 +1,4 @@
 use Rattle.std.proofs.Common.{◌∙◌, ap, arith}
-use Rattle.std.proofs.lemmas.Result.{err_from_is_err_and}
 use Rattle.sfx_batch.proofs.Taking.{end_taken, first_taken}
 use Rattle.sfx_batch.proofs.making.due_changes.Goals as goal
 use Rattle.sfx_model.specs.Items.{items_view}
@@ -21,27 +20,3 @@ returns-clause-end g c =
     c.cut_short-to.result c.ranges.size.fits
     (omega (arith, c.in_ok-changes.changes.ok, c.in_ok-changes.changes.small))
     (rw c.saturating_add.ensures at given) c.cut_short-to.ensures.end
-
-pub returns-in_err-changes : goal.returns-in_err-changes
-returns-in_err-changes g c =
-    let exit = err_from_is_err_and c.from_residual.result c.from_residual.ensures.1 in
-    let failed = c.in_err-changes.ensures in record {
-      changes = rw exit.1 tt;
-      end = rw exit.1 tt;
-      state = failed.state;
-      kept = failed.kept;
-      came = failed.came;
-      cause = rw (exit.1, exit.2) failed.cause;
-    }
-
-pub returns-clause-state : goal.returns-clause-state
-returns-clause-state g c = c.in_ok-changes.ensures.state
-
-pub returns-clause-kept : goal.returns-clause-kept
-returns-clause-kept g c = c.in_ok-changes.ensures.kept
-
-pub returns-clause-came : goal.returns-clause-came
-returns-clause-came g c = c.in_ok-changes.ensures.came
-
-pub returns-clause-cause : goal.returns-clause-cause
-returns-clause-cause g c = c.in_ok-changes.ensures.cause

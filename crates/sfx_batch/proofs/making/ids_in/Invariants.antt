@@ -1,15 +1,14 @@
-use Rattle.std.proofs.Common.{◌≡◌, ◌≤◌, ◌++◌, [], length}
+use Rattle.std.proofs.Common.{◌≡◌, ◌≤◌, ◌++◌, length}
 use Rattle.sfx_batch.proofs.making.ids_in.Given as goal
 use Rattle.sfx_model.specs.Batch.{ids_in}
 use Rattle.sfx_model.specs.Readings.{items_from}
+use Rattle.sfx_provider.specs.Leaves.{Rests}
 
 -- The ids so far and those that are left are all of the range.
 abbrev pub invariant-walk : goal.invariant-walk
 invariant-walk g l = let p = g.P.Provider in record {
   listed : l.ids.items ++ ids_in l.place l.to (p.state l.fn.source).items ≡ ids_in l.fn.from l.to (p.state l.fn.source).items;
-  state : p.state l.source ≡ p.state l.fn.source;
-  kept : p.kept l.source ≡ p.kept l.fn.source;
-  came : p.came l.fn.source l.source [];
+  rests : Rests p.state p.kept p.settled p.came l.fn.source l.source;
   faults : p.faults l.fn.source ≤ p.faults l.source;
 }
 

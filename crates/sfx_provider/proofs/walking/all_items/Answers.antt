@@ -1,17 +1,16 @@
-use Rattle.std.proofs.Common.{◌∙◌, Option, ap, sym, refl, arith}
+use Rattle.std.proofs.Common.{◌∙◌, Option, ap, sym, arith}
 use Rattle.std.proofs.lemmas.List.{append-nil}
 use Rattle.std.specs.Option.{option_map}
 use Rattle.sfx_item.specs.declared.item.Item.{Item}
 use Rattle.sfx_model.specs.Items.{item_view}
+use Rattle.sfx_provider.proofs.LeavesLemmas.{rests_on, rests_self}
 use Rattle.sfx_provider.proofs.Walks.{ended, fewer, from_start, walked_on}
 use Rattle.sfx_provider.proofs.walking.all_items.Goals as goal
 
 pub walk-init : goal.walk-init
 walk-init g c = record {
   walked = rw c.new-items.ensures.items (from_start (g.P.Provider.state c.args.provider.now).items);
-  state = refl;
-  kept = refl;
-  came = g.met.P.Provider.came_self c.args.provider.now;
+  rests = rests_self g.met.P.Provider.came_self c.args.provider.now;
   faults = omega arith;
 }
 
@@ -19,7 +18,7 @@ pub walk-smaller : goal.walk-smaller
 walk-smaller g c =
     let found = sym c.in_ok-item.ensures.value ∙ ap (λ (o : Option (Item g.row.U)). option_map item_view o) c.in-Some.is in
     fewer c.walk.from (g.P.Provider.state c.args.provider.now).items (item_view c.in-Some.item)
-    c.keeps.ensures.consistent.rising (rw c.walk.invariant.state at found)
+    c.keeps.ensures.consistent.rising (rw c.walk.invariant.rests.same at found)
 
 pub walk-preserved : goal.walk-preserved
 walk-preserved g c =
@@ -27,13 +26,11 @@ walk-preserved g c =
     let found = sym c.in_ok-item.ensures.value ∙ ap (λ (o : Option (Item g.row.U)). option_map item_view o) c.in-Some.is in
     let rising = c.keeps.ensures.consistent.rising in
     let on = walked_on c.walk.from (p.state c.args.provider.now).items c.walk.items.items c.in-Some.item rising
-    (rw c.walk.invariant.state at found) c.walk.invariant.walked in
+    (rw c.walk.invariant.rests.same at found) c.walk.invariant.walked in
     let fell = c.in_ok-item.ensures.cause in
     let low = c.walk.invariant.faults in record {
       walked = rw c.in_ok-push.ensures.items on;
-      state = c.in_ok-item.ensures.state ∙ c.walk.invariant.state;
-      kept = c.in_ok-item.ensures.kept ∙ c.walk.invariant.kept;
-      came = g.met.P.Provider.came_read c.args.provider.now c.walk.provider c.next_from.new.self _ c.walk.invariant.came c.in_ok-item.ensures.came;
+      rests = rests_on g.met.P.Provider.came_read c.walk.invariant.rests c.in_ok-item.ensures.rests;
       faults = omega (arith, low, fell);
     }
 
@@ -41,7 +38,7 @@ pub returns-clause-value : goal.returns-clause-value
 returns-clause-value g c =
     let p = g.P.Provider in
     let none = sym c.in_ok-item.ensures.value ∙ ap (λ (o : Option (Item g.row.U)). option_map item_view o) c.in_default.is in
-    let gone = ended c.walk.from (p.state c.args.provider.now).items (rw c.walk.invariant.state at none) in
+    let gone = ended c.walk.from (p.state c.args.provider.now).items (rw c.walk.invariant.rests.same at none) in
     let walked = c.walk.invariant.walked in
     let all = rw (gone, append-nil) at walked in
     all
