@@ -35,7 +35,7 @@ fn stamps<const U: usize>(marks: &Marks<U>) -> bool
     ensures { result ≡ list_any is_stamped marks.now }
 {
     marks
-        .marks()
+        .as_slice()
         .iter()
         .any(|mark| matches!(mark, Mark::Stamped))
 }
@@ -44,14 +44,17 @@ fn stamps<const U: usize>(marks: &Marks<U>) -> bool
 pub(crate) fn takes<const U: usize>(marks: &Marks<U>) -> bool
     ensures { result ≡ list_any is_taken marks.now }
 {
-    marks.marks().iter().any(|mark| matches!(mark, Mark::Taken))
+    marks
+        .as_slice()
+        .iter()
+        .any(|mark| matches!(mark, Mark::Taken))
 }
 
 /// Whether a unit is left alone.
 fn leaves<const U: usize>(marks: &Marks<U>) -> bool
     ensures { result ≡ list_any is_left marks.now }
 {
-    marks.marks().iter().any(|mark| is_left(*mark))
+    marks.as_slice().iter().any(|mark| is_left(*mark))
 }
 
 /// Whether the mark says that its unit is left alone.
@@ -96,7 +99,7 @@ fn add_left<const U: usize>(
 ) -> Result<(), Memory>
     ensures { OnOk result (AddsSkips skips.old skips.new (left_from id.now 0 marks.now)) }
 {
-    for (index, mark) in marks.marks().iter().enumerate() {
+    for (index, mark) in marks.as_slice().iter().enumerate() {
         if is_left(*mark) {
             skips.add(id, UnitId::new(index).unwrap())?;
         }

@@ -42,7 +42,7 @@ fn taken_row<const U: usize>(
     requires { 1 ≤ U }
     ensures { IfOk result (λ taken. taken ≡ taken_cells U marks.now row.now own.now) }
 {
-    let cells = taken_cells::<U>(alloc, marks.marks(), row.cells(), own.cells())?;
+    let cells = taken_cells::<U>(alloc, marks.as_slice(), row.cells(), own.cells())?;
     Ok(Row::new(alloc, cells)?.unwrap())
 }
 

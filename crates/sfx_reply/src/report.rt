@@ -68,7 +68,7 @@ fn write_entry<const U: usize>(out: &mut Vec<u8>, entry: &Entry<U>) -> Result<()
     ensures { OnOk result (out.new.items ≡ out.old.items ++ entry_text entry.now) }
 {
     write_kind(out, entry.kind)?;
-    write_marked(out, &entry.item, entry.marks.marks())?;
+    write_marked(out, &entry.item, entry.marks.as_slice())?;
     write_tick(out, entry.tick)?;
     write_name(out, &entry.name)?;
     newline(out)

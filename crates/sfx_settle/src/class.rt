@@ -1,8 +1,11 @@
 ghost use Rattle.std.specs.Prelude.{◌≡◌, IfOk};
 
-use crate::UnitClasses;
+use crate::{PerUnit, UnitClass};
 use sfx_ids::Memory;
 use std::alloc::Global;
+
+/// A class for each of the `U` units of an item.
+pub type UnitClasses<const U: usize> = PerUnit<UnitClass, U>;
 
 /// What a change is to its destination.
 #[derive(Drop)]

@@ -2,11 +2,14 @@ ghost use Rattle.std.specs.Prelude.{◌≡◌, IfOk};
 ghost use Rattle.std.specs.Option.{option_map};
 ghost use Rattle.sfx_model.specs.Draft.{all_marked};
 
-use crate::{Mark, Marks};
+use crate::{Mark, PerUnit};
 use sfx_ids::Memory;
 use sfx_item::Value;
 use std::alloc::Global;
 use std::marker::Model;
+
+/// A mark for each of the `U` units of an item.
+pub type Marks<const U: usize> = PerUnit<Mark, U>;
 
 /// What an entry is to do with its item: a mark for each unit, and the values of a live result. There are no
 /// values where the result is no live item, and where every unit is left alone.

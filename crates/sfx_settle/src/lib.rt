@@ -3,15 +3,14 @@
 
 pub use change::classify;
 pub use clash::settle_clash;
-pub use class::Class;
-pub use draft::Draft;
+pub use class::{Class, UnitClasses};
+pub use draft::{Draft, Marks};
 pub use longer::Longer;
-pub use marks::Marks;
 pub use merger::Merger;
+pub use per_unit::PerUnit;
 pub use rules::Rules;
 pub use sfx_model::{ClashRule, Keep, Mark, UnitClass};
 pub use ticks::{ClockFull, fresh};
-pub use unit_classes::UnitClasses;
 pub use units::settle_units;
 pub use whole::{settle_whole, values_of};
 
@@ -21,10 +20,9 @@ mod class;
 mod draft;
 mod known;
 mod longer;
-mod marks;
 mod merger;
+mod per_unit;
 mod rules;
 mod ticks;
-mod unit_classes;
 mod units;
 mod whole;

@@ -45,7 +45,7 @@ fn marks_of<const U: usize>(
     ensures { IfOk result (λ marks. marks ≡ unit_marks keep classes.now) }
 {
     let mut marks = Vec::with_capacity(alloc, U)?;
-    for class in classes.classes() {
+    for class in classes.as_slice() {
         marks.push(mark_of(keep, *class))?;
     }
     Ok(Marks::of(marks))
@@ -67,7 +67,10 @@ fn mark_of(keep: Keep, class: UnitClass) -> Mark
 fn all_left<const U: usize>(marks: &Marks<U>) -> bool
     ensures { result ≡ list_all is_left marks.now }
 {
-    marks.marks().iter().all(|mark| matches!(mark, Mark::Left))
+    marks
+        .as_slice()
+        .iter()
+        .all(|mark| matches!(mark, Mark::Left))
 }
 
 /// The values of units of these classes.

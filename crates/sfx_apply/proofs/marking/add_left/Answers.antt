@@ -7,6 +7,6 @@ use Rattle.sfx_apply.proofs.marking.add_left.Goals as goal
 
 pub returns : goal.returns
 returns g c i u =
-    added_all c.args.id.now c.marks-mark-items.result.now c.loop-index.index c.loop-index.skips
-    (left_from c.args.id.now 0 c.marks-mark-items.result.now) c.args.skips.now c.loop-index-test.false c.loop-index.invariant i u
-    ∙ ap (λ (marks : List Mark). is_skipped (left_from c.args.id.now 0 marks) i u || is_skipped c.args.skips.now i u) c.marks-mark-items.ensures.value
+    added_all c.args.id.now c.as_slice-mark-items.result.now c.loop-index.index c.loop-index.skips
+    (left_from c.args.id.now 0 c.as_slice-mark-items.result.now) c.args.skips.now c.loop-index-test.false c.loop-index.invariant i u
+    ∙ ap (λ (marks : List Mark). is_skipped (left_from c.args.id.now 0 marks) i u || is_skipped c.args.skips.now i u) c.as_slice-mark-items.ensures.value

@@ -15,7 +15,7 @@ loop-class-init g c = c.in_ok-marks.ensures.items
 
 pub loop-class-preserved : goal.loop-class-preserved
 loop-class-preserved g c =
-    mapped_more (unit_mark c.args.keep) c.classes-class-items.result.now c.loop-class.class-index _ c.loop-class.marks.items c.push.new.self.items c.mark_of.result
+    mapped_more (unit_mark c.args.keep) c.as_slice-class-items.result.now c.loop-class.class-index _ c.loop-class.marks.items c.push.new.self.items c.mark_of.result
     c.loop-class-test.true c.loop-class.invariant c.in_ok-push.ensures.items c.mark_of.ensures
 
 pub returns-in_err-push : goal.returns-in_err-push
@@ -25,12 +25,12 @@ returns-in_err-push g c =
 
 pub of-requires : goal.of-requires
 of-requires g c =
-    let all = mapped_all (unit_mark c.args.keep) c.classes-class-items.result.now c.args.classes.now c.loop-class.class-index c.loop-class.marks.items
-    c.loop-class-test.false c.loop-class.invariant c.classes-class-items.ensures.value in
-    (omega arith, ap length all ∙ length-map c.args.classes.now (unit_mark c.args.keep) ∙ c.classes-class-items.ensures.whole)
+    let all = mapped_all (unit_mark c.args.keep) c.as_slice-class-items.result.now c.args.classes.now c.loop-class.class-index c.loop-class.marks.items
+    c.loop-class-test.false c.loop-class.invariant c.as_slice-class-items.ensures.value in
+    (omega arith, ap length all ∙ length-map c.args.classes.now (unit_mark c.args.keep) ∙ c.as_slice-class-items.ensures.whole)
 
 pub returns : goal.returns
 returns g c =
     c.of.ensures
-    ∙ mapped_all (unit_mark c.args.keep) c.classes-class-items.result.now c.args.classes.now c.loop-class.class-index c.loop-class.marks.items
-    c.loop-class-test.false c.loop-class.invariant c.classes-class-items.ensures.value
+    ∙ mapped_all (unit_mark c.args.keep) c.as_slice-class-items.result.now c.args.classes.now c.loop-class.class-index c.loop-class.marks.items
+    c.loop-class-test.false c.loop-class.invariant c.as_slice-class-items.ensures.value
