@@ -1,0 +1,8 @@
+use Rattle.std.proofs.Common.{◌∙◌}
+use Rattle.sfx_items.proofs.ItemListLemmas.{among}
+use Rattle.sfx_items.proofs.many.is_among.Goals as goal
+
+pub returns : goal.returns
+returns c rising =
+    c.is_ok.ensures.value
+    ∙ among c.args.ids.now c.args.id.now c.binary_search.result rising c.binary_search.ensures.bound c.binary_search.ensures.position

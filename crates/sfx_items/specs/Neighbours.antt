@@ -1,0 +1,12 @@
+-- What stands next to a place.
+use Rattle.std.specs.Prelude.{if◌then◌else◌, List, [], ◌∷◌, Option, Some, None}
+use Rattle.std.specs.Option.{option_or}
+use Rattle.sfx_ids.specs.declared.cut.Cut.{Cut}
+use Rattle.sfx_ids.specs.declared.cut.Cut.TheVariants.{At}
+use Rattle.sfx_ids.specs.Cut.{cut_lt}
+use Rattle.sfx_model.specs.Members.{MemberItem}
+
+-- The last item whose place is before this one.
+abbrev pub last_before : Cut → List MemberItem → Option MemberItem
+last_before place [] = None
+last_before place (x ∷ xs) = option_or (last_before place xs) (if cut_lt (At x.id) place then Some x else None)

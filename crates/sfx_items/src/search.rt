@@ -1,0 +1,56 @@
+//! The search by halves, on which every look-up rests.
+ghost use Rattle.std.specs.Prelude.{◌≡◌, if◌then◌else◌, length, Some, None};
+ghost use Rattle.std.specs.List.{position_from};
+ghost use Rattle.sfx_ids.specs.declared.item_id.ItemId.{ItemId};
+ghost use Rattle.sfx_model.specs.Items.{items_view};
+ghost use Rattle.sfx_model.specs.Members.{AreRising};
+ghost use Rattle.sfx_items.specs.Places.{AreFew, count_before, has_id};
+
+use sfx_ids::Cut;
+use sfx_item::Item;
+use std::cmp::Ordering;
+
+/// Where a search for a cut ended.
+#[derive(Clone, Copy)]
+pub(crate) struct Found {
+    /// How many items stand before the cut.
+    pub(crate) place: usize,
+    /// Whether the cut is the place of the item there.
+    pub(crate) exact: bool,
+    /// With how many items the cut was compared.
+    pub(crate) compared: usize,
+}
+
+/// Searches items in order of their ids for a cut, by halves: among N items it is compared with at most
+/// log2(N) + 1 of them.
+pub(crate) fn search<const U: usize>(items: &[Item<U>], cut: &Cut) -> Found
+    requires rising { AreRising (items_view items.now) }
+    ensures place { result.place ≡ count_before cut.now (items_view items.now) }
+    ensures exact { (i : ItemId) → cut.now ≡ Cut.At i →
+        position_from (has_id i) 0 items.now ≡ (if result.exact then Some result.place else None) }
+    ensures few { AreFew (length items.now) result.compared }
+{
+    let mut low = 0;
+    let mut high = items.len();
+    let mut compared = 0;
+    'halves: while low < high {
+        let middle = low + (high - low) / 2;
+        compared += 1;
+        match Cut::At(items[middle].id).cmp(cut) {
+            Ordering::Less => low = middle + 1,
+            Ordering::Greater => high = middle,
+            Ordering::Equal => {
+                return Found {
+                    place: middle,
+                    exact: true,
+                    compared,
+                };
+            }
+        }
+    }
+    Found {
+        place: low,
+        exact: false,
+        compared,
+    }
+}
