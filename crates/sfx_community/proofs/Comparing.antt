@@ -19,7 +19,7 @@ use Rattle.sfx_model.specs.Events.{same_item}
 use Rattle.sfx_model.specs.Headline.{live_items}
 use Rattle.sfx_model.specs.Members.{ItemState, Live, Dead, Member, MemberItem}
 use Rattle.sfx_model.proofs.Steps.{same_item_is, same_item_self}
-use Rattle.sfx_reply.specs.Listing.{all_known}
+use Rattle.sfx_model.specs.Knowing.{laid_known}
 use Rattle.sfx_reply.specs.declared.reply.Reply.TheVariants.{Compared}
 use Rattle.sfx_community.specs.Comparing.{hold_same, know_same, same_cut, same_segments, same_version, same_cells, same_state, same_items}
 
@@ -138,8 +138,8 @@ pub items_decided : (xs ys : List MemberItem) → (same_items xs ys ≡ true →
 items_decided xs ys = (items_is xs ys, (λ same. ap (λ x. same_items xs x) (sym same) ∙ items_self xs))
 
 -- what the comparison with all that a member knows answers
-pub compared_knowledge : (units : ℕ) (n : Member) (one other : Known) (k : Bool) → other ≡ all_known units n
-    → ((k ≡ true → one ≡ other) × (one ≡ other → k ≡ true)) → k ≡ same_segments one (all_known units n)
+pub compared_knowledge : (units : ℕ) (n : Member) (one other : Known) (k : Bool) → other ≡ laid_known units n
+    → ((k ≡ true → one ≡ other) × (one ≡ other → k ≡ true)) → k ≡ same_segments one (laid_known units n)
 compared_knowledge units n one other k is_other same =
     same_from_decides k (same_segments one other) same (segments_decided one other) ∙ ap (λ x. same_segments one x) is_other
 

@@ -10,7 +10,7 @@ use Rattle.sfx_knowledge.specs.Forms.{same_row}
 use Rattle.sfx_model.specs.Events.{same_item}
 use Rattle.sfx_model.specs.Headline.{live_items}
 use Rattle.sfx_model.specs.Members.{ItemState, Live, Dead, Member, MemberItem}
-use Rattle.sfx_reply.specs.Listing.{all_known}
+use Rattle.sfx_model.specs.Knowing.{laid_known}
 
 -- Both cuts are the same.
 abbrev pub same_cut : Cut → Cut → Bool
@@ -50,7 +50,7 @@ same_items (x ∷ xs) (y ∷ ys) = same_item x.id y.id && same_state x.state y.s
 
 -- Both members know the same, their own versions included, at every place and unit.
 abbrev pub know_same : ℕ → Member → Member → Bool
-know_same units m n = same_segments (all_known units m) (all_known units n)
+know_same units m n = same_segments (laid_known units m) (laid_known units n)
 
 -- Both members hold the same live items, with the same ids, versions and values.
 abbrev pub hold_same : Member → Member → Bool

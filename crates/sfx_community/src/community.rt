@@ -5,7 +5,7 @@ ghost use Rattle.sfx_script.specs.Limits.{AreWithinLimits, IsLimited};
 ghost use Rattle.sfx_reply.specs.declared.reply.Reply.TheVariants.{Refused, Synced};
 ghost use Rattle.sfx_reply.specs.declared.reason.Reason.TheVariants.{Edit, NoReplica, Session};
 ghost use Rattle.sfx_community.specs.Comparing.{know_same, same_segments};
-ghost use Rattle.sfx_reply.specs.Listing.{all_known};
+ghost use Rattle.sfx_model.specs.Knowing.{laid_known};
 ghost use Rattle.sfx_reply.specs.Reply.{is_memory};
 ghost use Rattle.sfx_reply.specs.Report.{report_text};
 ghost use Rattle.sfx_community.specs.Turn.{is_built, leaves_changes, leaves_names};
@@ -337,7 +337,7 @@ fn is_all_known(
     knowledge: &Knowledge<UNITS>,
     replica: &Replica<UNITS>,
 ) -> Result<bool, Memory>
-    ensures { IfOk result (λ same. same ≡ same_segments knowledge.now (all_known UNITS replica.now)) }
+    ensures { IfOk result (λ same. same ≡ same_segments knowledge.now (laid_known UNITS replica.now)) }
 {
     let all = replica.knowledge(alloc)?;
     let is_same = knowledge.same(&all);

@@ -138,7 +138,7 @@ compared a b = elim (le_or_lt a b) [
 
 -- ---- three cuts
 
-is_less : (o : Ordering) → is_lt o ≡ true → o ≡ Less
+pub is_less : (o : Ordering) → is_lt o ≡ true → o ≡ Less
 is_less Less lt = refl
 is_less Equal lt = absurd (true≢false (sym lt))
 is_less Greater lt = absurd (true≢false (sym lt))

@@ -5,12 +5,13 @@ use Rattle.std.proofs.lemmas.List.Sums.{fails_before_first, passes_at_first, pre
 use Rattle.std.proofs.lemmas.Slice.Eq.{bytes_eq-Decides, starts_is}
 use Rattle.std.specs.List.{position_or_len}
 use Rattle.std.specs.Str.Lossy.{utf8_valid_len}
+use Rattle.std.proofs.lemmas.Bool.{cases_lt}
 use Rattle.sfx_item.specs.Clash.{Clash, IsBelow}
 use Rattle.sfx_item.specs.Decided.{is_control_front, is_improper, begins_component, component_from, has_control, has_improper, ends_text, ends_size, is_wrong_at, first_from, name_fault, is_below, is_clash}
 use Rattle.sfx_item.specs.Faults.{HasControlBytes, IsControlAt, IsImproperAt}
 use Rattle.sfx_item.specs.Name.{slash, IsImproper, IsName, IsWrongAt, IsFirstWrong}
 use Rattle.sfx_item.proofs.Below.{bytes_below, below_bytes}
-use Rattle.sfx_item.proofs.Places.{Begins, text_length, lt_or_le, control_found, control_bytes, control_within, improper_says, improper_begins, improper_within, wrong_size, wrong_end, wrong_control, wrong_improper, wrong_kinds, first_place, is_name, nothing_wrong}
+use Rattle.sfx_item.proofs.Places.{Begins, text_length, control_found, control_bytes, control_within, improper_says, improper_begins, improper_within, wrong_size, wrong_end, wrong_control, wrong_improper, wrong_kinds, first_place, is_name, nothing_wrong}
 
 -- ---- the tests at an index
 
@@ -91,14 +92,14 @@ Searched test from count (Some at) = (test at ≡ true) × (from ≤ at) × ((k 
 
 search_step : (test : ℕ → Bool) (from more : ℕ) (t : Bool) (r : Option ℕ) → test from ≡ t → Searched test (from + 1) more r → Searched test from (suc more) (cond t (Some from) r)
 search_step test from more true r is rest = (is, omega arith, λ k low high. absurd (omega arith))
-search_step test from more false None is rest = λ k low high. elim (lt_or_le from k) [
+search_step test from more false None is rest = λ k low high. elim (cases_lt from k) [
   | inl above ↦ rest k (omega arith) (omega arith)
   | inr le ↦ let here : k ≡ from = omega arith in ap test here ∙ is
 ]
 search_step test from more false (Some at) is rest = (
   rest.0,
   omega (arith, rest.1),
-  λ k low high. elim (lt_or_le from k) [
+  λ k low high. elim (cases_lt from k) [
     | inl above ↦ rest.2 k (omega arith) high
     | inr le ↦ let here : k ≡ from = omega arith in ap test here ∙ is
   ],
@@ -159,7 +160,7 @@ unfolding is_clash
 clash_decided a b = Decides-or _ _ (bytes_eq-Decides a b) (Decides-or _ _ (below_decided a b) (below_decided b a))
 
 -- names clash whichever comes first
-other_way : (a b : List ℕ) → Clash a b → Clash b a
+pub other_way : (a b : List ℕ) → Clash a b → Clash b a
 other_way a b (inl same) = inl (sym same)
 other_way a b (inr (inl below)) = inr (inr below)
 other_way a b (inr (inr above)) = inr (inl above)

@@ -2,32 +2,18 @@
 use Rattle.std.proofs.Common.{◌≡◌, ◌≢◌, ◌⊎◌, ℕ, suc, zero, ◌+◌, ◌-◌, ◌/◌, ◌%◌, ◌<◌, ◌≤◌, Bool, true, false, cond, nat_lt, List, [], ◌∷◌, ◌++◌, length, get_or, take, drop, refl, sym, ap, subst, inl, inr, arith, ◌∙◌, append_assoc}
 use Rattle.std.proofs.lemmas.Bool.Decides.{nat_tests}
 use Rattle.std.proofs.lemmas.List.{length-take-le, take-append-drop, take-take, get_or-take, get_or-drop, length-append, get_or-append-add, get_or_append_left, take_more}
-use Rattle.std.proofs.Math.Seq.{drop-cons}
+use Rattle.std.proofs.Math.Seq.{drop-cons, take-append_seam, drop-append_seam}
 use Rattle.std.proofs.Math.Utf8.{encode, low_scalar}
 use Rattle.std.proofs.lemmas.Str.{IsUtf8-nil, IsUtf8-append, IsUtf8-encode, IsUtf8-take, IsCharBoundary-after_ascii, encode_ascii, length-encode, len_utf8_bounds, IsUtf8-from_is_utf8, is_utf8-from_IsUtf8, utf8_valid_len_le}
 use Rattle.std.specs.Bool.{Decides}
 use Rattle.std.specs.Str.{IsUtf8, IsValidUpTo, IsCharBoundary, is_utf8}
 use Rattle.std.specs.Str.Lossy.{valid_len_up_to, utf8_valid_len}
+use Rattle.std.proofs.lemmas.Bool.{cases_lt}
 use Rattle.sfx_item.specs.Faults.{IsTextUpTo, HasControlBytes, IsControlAt, IsImproperAt}
 use Rattle.sfx_item.specs.Name.{slash, IsControl, IsImproper, EndsWithSlash, BeginsWithSlash, IsName, IsWrongAt, IsFirstWrong}
 use Rattle.sfx_item.specs.Name.IsWrongAt.{improper, control, no_text, too_long}
 
 -- ---- lists
-
-pub lt_or_le : (a b : ℕ) → (a < b) ⊎ (b ≤ a)
-lt_or_le a b = by_test (nat_lt a b) refl
-  where
-    by_test : (t : Bool) → nat_lt a b ≡ t → (a < b) ⊎ (b ≤ a)
-    by_test true is = inl (grind (arith, nat_tests))
-    by_test false is = inr (grind (arith, nat_tests))
-
-take_front : (xs ys : List ℕ) → take (length xs) (xs ++ ys) ≡ xs
-take_front [] ys = refl
-take_front (x ∷ xs) ys = ap (λ l. x ∷ l) (take_front xs ys)
-
-drop_front : (xs ys : List ℕ) → drop (length xs) (xs ++ ys) ≡ ys
-drop_front [] ys = refl
-drop_front (x ∷ xs) ys = drop_front xs ys
 
 take_whole : (n : ℕ) (xs : List ℕ) → length xs ≤ n → take n xs ≡ xs
 take_whole zero [] le = refl
@@ -49,10 +35,10 @@ get_or-cons (x ∷ xs) some = refl
 
 -- what is put together at an index is cut there
 pub cut_front : (bytes before after : List ℕ) (at : ℕ) → bytes ≡ before ++ after → length before ≡ at → take at bytes ≡ before
-cut_front bytes before after at spelled place = rw (spelled, ← place) (take_front before after)
+cut_front bytes before after at spelled place = rw (spelled, ← place) (take-append_seam before after)
 
 pub cut_rest : (bytes before after : List ℕ) (at : ℕ) → bytes ≡ before ++ after → length before ≡ at → drop at bytes ≡ after
-cut_rest bytes before after at spelled place = rw (spelled, ← place) (drop_front before after)
+cut_rest bytes before after at spelled place = rw (spelled, ← place) (drop-append_seam before after)
 
 within_bytes : (bytes before after : List ℕ) → bytes ≡ before ++ after → length before ≤ length bytes
 within_bytes bytes before after spelled = rw spelled (omega (arith, length-append before after))
@@ -67,7 +53,7 @@ pub text_ends : (bytes : List ℕ) (at : ℕ) → IsValidUpTo bytes at → IsTex
 text_ends bytes at valid = record {
   within = omega (arith, valid.short);
   text = valid.front;
-  longest = λ m within utf8. elim (lt_or_le at m) [ inl less ↦ absurd (valid.longest m less utf8) | inr le ↦ le ];
+  longest = λ m within utf8. elim (cases_lt at m) [ inl less ↦ absurd (valid.longest m less utf8) | inr le ↦ le ];
 }
 
 pub text_whole : (bytes : List ℕ) → IsUtf8 bytes → IsTextUpTo bytes (length bytes)
@@ -81,7 +67,7 @@ ends_text : (bytes : List ℕ) (n : ℕ) → IsTextUpTo bytes n → n < length b
 ends_text bytes n text short = record {
   short = short;
   front = text.text;
-  longest = λ m less utf8. elim (lt_or_le (length bytes) m) [
+  longest = λ m less utf8. elim (cases_lt (length bytes) m) [
     | inr le ↦ absurd (omega (arith, text.longest m le utf8))
     | inl beyond ↦
         let all : IsUtf8 bytes = subst IsUtf8 (take_whole m bytes (omega arith)) utf8 in
@@ -93,7 +79,7 @@ ends_text bytes n text short = record {
 same_end : (bytes : List ℕ) (n at : ℕ) → IsTextUpTo bytes n → IsValidUpTo bytes at → (n < length bytes) × (at ≡ n)
 same_end bytes n at text valid =
     let below : at ≤ n = text.longest at (omega (arith, valid.short)) valid.front in
-    let above : n ≤ at = elim (lt_or_le at n) [ inl less ↦ absurd (valid.longest n less text.text) | inr le ↦ le ] in
+    let above : n ≤ at = elim (cases_lt at n) [ inl less ↦ absurd (valid.longest n less text.text) | inr le ↦ le ] in
     let same : at ≡ n = omega arith in
     (subst (λ m. m < length bytes) same valid.short, same)
 
@@ -106,7 +92,7 @@ longest_text bytes (suc n) = by_test (is_utf8 (take (suc n) bytes)) refl (longes
     by_test true is rest = (IsUtf8-from_is_utf8 (take (suc n) bytes) is, λ m within utf8. within)
     by_test false is rest = (
       rest.0,
-      λ m within utf8. elim (lt_or_le n m) [
+      λ m within utf8. elim (cases_lt n m) [
         | inr le ↦ rest.1 m le utf8
         | inl above ↦
             let top : m ≡ suc n = omega arith in
@@ -149,7 +135,7 @@ begins_control : (bytes after : List ℕ) (c : ℕ) → IsControl c → bytes �
 begins_control bytes after c (inl low) spelled =
     let one : bytes ≡ c ∷ after = spelled ∙ ap (λ l. l ++ after) (encode_ascii c (omega arith)) in
     subst HasControlBytes (sym one) (omega arith, inl low)
-begins_control bytes after c (inr (low, high)) spelled = elim (lt_or_le c 128) [
+begins_control bytes after c (inr (low, high)) spelled = elim (cases_lt c 128) [
   | inl less ↦
       let one : bytes ≡ c ∷ after = spelled ∙ ap (λ l. l ++ after) (encode_ascii c less) in
       subst HasControlBytes (sym one) (omega arith, inr (inl (omega arith)))
@@ -212,7 +198,7 @@ Begins bytes at = (at ≡ 0) ⊎ (get_or bytes (at - 1) 0 ≡ slash)
 
 begins_front : (bytes : List ℕ) (at : ℕ) → at ≤ length bytes → Begins bytes at → EndsWithSlash (take at bytes)
 begins_front bytes at within (inl start) = inl (ap (λ n. take n bytes) start)
-begins_front bytes at within (inr is) = elim (lt_or_le 0 at) [
+begins_front bytes at within (inr is) = elim (cases_lt 0 at) [
   | inr start ↦ inl (let zero_at : at ≡ 0 = omega arith in ap (λ n. take n bytes) zero_at)
   | inl some ↦
       let back : at - 1 + 1 ≡ at = omega arith in
@@ -220,7 +206,7 @@ begins_front bytes at within (inr is) = elim (lt_or_le 0 at) [
 ]
 
 begins_text : (bytes : List ℕ) (n at : ℕ) → IsTextUpTo bytes n → at ≤ n → Begins bytes at → IsUtf8 (take at bytes)
-begins_text bytes n at text le begins = elim (lt_or_le 0 at) [
+begins_text bytes n at text le begins = elim (cases_lt 0 at) [
   | inr start ↦
       let zero_at : at ≡ 0 = omega arith in
       subst (λ m. IsUtf8 (take m bytes)) (sym zero_at) IsUtf8-nil
@@ -237,7 +223,7 @@ begins_text bytes n at text le begins = elim (lt_or_le 0 at) [
 ]
 
 ends_rest : (rest : List ℕ) (len : ℕ) → (len < length rest → get_or rest len 0 ≡ slash) → BeginsWithSlash (drop len rest)
-ends_rest rest len ends = elim (lt_or_le len (length rest)) [
+ends_rest rest len ends = elim (cases_lt len (length rest)) [
   | inr le ↦ inl (drop_whole len rest le)
   | inl less ↦
       let split : drop len rest ≡ get_or rest len 0 ∷ drop (suc len) rest = drop-cons rest len 0 less in
@@ -302,11 +288,11 @@ improper_begins bytes at is =
 same_len : (component after : List ℕ) (len : ℕ) → IsImproper component → BeginsWithSlash after → len ≤ length (component ++ after) → ((k : ℕ) → k < len → get_or (component ++ after) k 0 ≢ slash) → (len < length (component ++ after) → get_or (component ++ after) len 0 ≡ slash) → len ≡ length component
 same_len component after len kind begins within single ends =
     let sum : length (component ++ after) ≡ length component + length after = length-append component after in
-    let above : length component ≤ len = elim (lt_or_le len (length component)) [
+    let above : length component ≤ len = elim (cases_lt len (length component)) [
       | inr le ↦ le
       | inl less ↦ absurd (free component len kind (sym (get_or_append_left component after 0 len less) ∙ ends (omega arith)))
     ] in
-    let below : len ≤ length component = elim (lt_or_le (length component) len) [
+    let below : len ≤ length component = elim (cases_lt (length component) len) [
       | inr le ↦ le
       | inl less ↦ elim begins [
         | inl none ↦ absurd (omega (arith, ap length none))
@@ -353,13 +339,13 @@ wrong_kinds P bytes n at text size end controls impropers (too_long long is) = s
 pub first_place : (bytes : List ℕ) (at : ℕ) → IsWrongAt bytes at → ((k : ℕ) → k < at → IsWrongAt bytes k → ⊥) → IsFirstWrong bytes at
 first_place bytes at wrong before = record {
   wrong = wrong;
-  least = λ n wrong'. elim (lt_or_le n at) [ inl less ↦ absurd (before n less wrong') | inr le ↦ le ];
+  least = λ n wrong'. elim (cases_lt n at) [ inl less ↦ absurd (before n less wrong') | inr le ↦ le ];
 }
 
 pub is_name : (bytes : List ℕ) (n : ℕ) → IsTextUpTo bytes n → ((k : ℕ) → k < length bytes + 1 → IsWrongAt bytes k → ⊥) → IsName bytes
 is_name bytes n text right = record {
-  size = elim (lt_or_le 255 (length bytes)) [ inl long ↦ absurd (right 255 (omega arith) (too_long long refl)) | inr le ↦ le ];
-  text = elim (lt_or_le n (length bytes)) [
+  size = elim (cases_lt 255 (length bytes)) [ inl long ↦ absurd (right 255 (omega arith) (too_long long refl)) | inr le ↦ le ];
+  text = elim (cases_lt n (length bytes)) [
     | inl short ↦ absurd (right n (omega arith) (no_text (ends_text bytes n text short)))
     | inr le ↦ subst IsUtf8 (take_whole n bytes le) text.text
   ];

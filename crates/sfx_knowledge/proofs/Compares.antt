@@ -1,30 +1,5 @@
--- Tests of numbers and of clock vectors.
-use Rattle.std.proofs.Common.{◌≡◌, ◌≢◌, ℕ, ◌<◌, ◌≤◌, ◌&&◌, ◌||◌, Bool, true, false, true≢false, nat_eq, nat_lt, arith, refl, sym}
-use Rattle.std.proofs.lemmas.Bool.Decides.{nat_tests}
-
-pub eq-true : (a b : ℕ) → a ≡ b → nat_eq a b ≡ true
-eq-true a b same = grind (arith, nat_tests)
-
-pub eq-false : (a b : ℕ) → a ≢ b → nat_eq a b ≡ false
-eq-false a b other = grind (arith, nat_tests)
-
-pub lt-true : (a b : ℕ) → a < b → nat_lt a b ≡ true
-lt-true a b less = grind (arith, nat_tests)
-
-pub lt-false : (a b : ℕ) → b ≤ a → nat_lt a b ≡ false
-lt-false a b le = grind (arith, nat_tests)
-
-pub eq-is : (a b : ℕ) → nat_eq a b ≡ true → a ≡ b
-eq-is a b same = grind (arith, nat_tests)
-
--- a test, with what it says
-pub data Tested (b : Bool) : Type 0 where
-  yes_it : b ≡ true → Tested b
-  not_it : b ≡ false → Tested b
-
-pub tested : (b : Bool) → Tested b
-tested true = yes_it refl
-tested false = not_it refl
+-- Two tests together.
+use Rattle.std.proofs.Common.{◌≡◌, ◌&&◌, ◌||◌, Bool, true, false, true≢false, refl, sym}
 
 pub and-left : (x y : Bool) → (x && y) ≡ true → x ≡ true
 and-left true y both = refl

@@ -169,3 +169,7 @@ pub ticks-own : (units own tick : ℕ) (a made : Known) → own < 2 ^ 128 → ti
 ticks-own units own tick a made fits most form all q u r place within =
     ap (λ row. tick_of (row_at row u) r) (combined_is (λ x y. own_row units own tick x) a a made no_row no_row no_row q form.segments form.segments all place)
     ∙ tick-own_row units own tick (segment_at no_row a q) u r fits most (row_at_place units a q form.rows) within
+
+-- knowledge has its own ticks
+pub ticks-self : (units : ℕ) (known : Known) → HasTicks units known (tick_at known)
+ticks-self units known place u r at small = refl

@@ -2,6 +2,7 @@
 use Rattle.std.proofs.Common.{◌≡◌, ◌≢◌, ◌⊎◌, ℕ, ◌+◌, ◌<◌, ◌≤◌, ◌^◌, ◌&&◌, ◌||◌, Bool, true, false, true≢false, if◌then◌else◌, nat_eq, inl, inr, arith, refl, sym, ap, subst, ◌∙◌, List, [], ◌∷◌, map}
 use Rattle.std.specs.List.{flat_map}
 use Rattle.std.proofs.Math.Path.{fun_ext}
+use Rattle.std.proofs.lemmas.Bool.{eq-eqb, ne_eqb}
 use Rattle.sfx_ids.specs.Tick.{max_tick}
 use Rattle.sfx_ids.specs.declared.cut.Cut.{Cut}
 use Rattle.sfx_ids.specs.declared.cut.Cut.TheVariants.{Start}
@@ -11,11 +12,12 @@ use Rattle.sfx_vector.specs.Clocks.{Clocks, AreClocks, tick_of}
 use Rattle.sfx_vector.proofs.Entries.{same_ticks}
 use Rattle.sfx_segments.specs.Segments.{IsPlace, segment_at, GoOn, AreSegments, AreCombined}
 use Rattle.sfx_segments.proofs.Places.{segment_at-passed, segment_at-ahead}
+use Rattle.sfx_segments.proofs.Tested.{yes_it, not_it, tested}
 use Rattle.sfx_knowledge.specs.Row.{UnitClocks, row_at, listed_or, AreExceptions, IsRow}
 use Rattle.sfx_knowledge.specs.Knowledge.{Known, no_row, clocks_at, tick_at, AreRows, IsKnowledge, Ticks, HasTicks, laid_over}
 use Rattle.sfx_knowledge.specs.Forms.{clocks_of, row_of, same_row, with_cut, in_order, changes_at, segments_of, knowledge_of, starts_of, listed_in, listed_in_row, replicas_of, with_own, is_listed, AreReplicas, AreTicks, ArePlaces, is_parted, ChangeAtAlone}
 use Rattle.sfx_knowledge.specs.Vectors.{own_clocks, own_row}
-use Rattle.sfx_knowledge.proofs.Compares.{eq-true, eq-false, or-left, or-right, yes_it, not_it, tested}
+use Rattle.sfx_knowledge.proofs.Compares.{or-left, or-right}
 use Rattle.sfx_knowledge.proofs.Clocks.{AreClocks-clocks_of, tick-clocks_of, AreReplicas-append, AreReplicas-listed_in, listed-append, tick-unlisted, tick-most, AreClocks-own, tick-own}
 use Rattle.sfx_knowledge.proofs.RowForms.{IsRow-row_of, row_at-row_of, same_row-is, same_row-self, not_same_row}
 use Rattle.sfx_knowledge.proofs.Known.{same_known, AreClocks-clocks_at, combined_is}
@@ -267,7 +269,7 @@ ticks-knowledge_of units cuts replicas ticks are change q u r place within =
 
 -- ---- the ticks of knowledge
 
-ArePlaces-behind : {A : Type 0} (from : Cut) (value : A) (ps : List (Cut × A)) → GoOn from value ps → ArePlaces (map (λ p. p.0) ps)
+pub ArePlaces-behind : {A : Type 0} (from : Cut) (value : A) (ps : List (Cut × A)) → GoOn from value ps → ArePlaces (map (λ p. p.0) ps)
 ArePlaces-behind from value [] on = tt
 ArePlaces-behind from value (p ∷ ps) on = (on.1, ArePlaces-behind p.0 p.1 ps on.3)
 
@@ -344,8 +346,8 @@ own_most units own tick known form most q u r = by_test (nat_eq r own)
 
 own_others : (own tick : ℕ) (known : Known) (q : Cut) (u r : ℕ) → is_listed (own ∷ replicas_of known) r ≡ false → laid_over own tick (tick_at known) q u r ≡ 0
 own_others own tick known q u r none =
-    let other : own ≢ r = λ is. absurd (true≢false (sym (eq-true own r is) ∙ or-left (nat_eq own r) (is_listed (replicas_of known) r) none)) in
-    ap (λ b. if b then tick else tick_at known q u r) (eq-false r own (λ is. other (sym is)))
+    let other : own ≢ r = λ is. absurd (true≢false (sym (eq-eqb own r is) ∙ or-left (nat_eq own r) (is_listed (replicas_of known) r) none)) in
+    ap (λ b. if b then tick else tick_at known q u r) (ne_eqb r own (λ is. other (sym is)))
     ∙ tick-unlisted_known known q u r (or-right (nat_eq own r) (is_listed (replicas_of known) r) none)
 
 pub AreTicks-own : (units own tick : ℕ) (known : Known) → IsKnowledge units known → tick ≤ max_tick → own < 2 ^ 128 → AreTicks units (own ∷ replicas_of known) (laid_over own tick (tick_at known))

@@ -1,5 +1,6 @@
 -- Ranges of places, and one unit of an item.
 use Rattle.std.proofs.Common.{◌≡◌, ℕ, ◌<◌, max, ◌&&◌, ◌||◌, not, Bool, true, false, true≢false, if◌then◌else◌, arith, refl, sym, ap, subst, ◌∙◌, List, [], ◌∷◌, ◌++◌}
+use Rattle.std.proofs.lemmas.Bool.{eq-eqb}
 use Rattle.sfx_ids.specs.declared.cut.Cut.{Cut}
 use Rattle.sfx_ids.specs.declared.cut.Cut.TheVariants.{Start, At, After, End}
 use Rattle.sfx_ids.specs.declared.item_id.ItemId.{ItemId}
@@ -8,11 +9,11 @@ use Rattle.sfx_ids.proofs.CutOrder.{start-le, le-self, not_le, le-not_lt, at-lt-
 use Rattle.sfx_vector.specs.Clocks.{tick_of}
 use Rattle.sfx_segments.specs.Segments.{IsPlace, segment_at, AreSegments, SetsRange}
 use Rattle.sfx_segments.proofs.Places.{lt-end}
+use Rattle.sfx_segments.proofs.Tested.{Tested, yes_it, not_it, tested}
 use Rattle.sfx_knowledge.specs.Row.{UnitClocks, row_at, IsRow, ChangesUnit}
 use Rattle.sfx_knowledge.specs.Skips.{same_cell, is_skipped, is_skipped_at}
 use Rattle.sfx_knowledge.specs.Knowledge.{Known, no_row, clocks_at, tick_at, IsKnowledge, Ticks, HasTicks, joined, projected, learned}
 use Rattle.sfx_knowledge.specs.Places.{Restores}
-use Rattle.sfx_knowledge.proofs.Compares.{eq-true, Tested, yes_it, not_it, tested}
 use Rattle.sfx_knowledge.proofs.SkipForms.{cells_same}
 use Rattle.sfx_knowledge.proofs.Known.{set_is, rows_from_places, row_at_place}
 
@@ -120,7 +121,7 @@ learned_none units made here there range lo hi union project q u r place within 
     by_test true false is = refl
     by_test false false is = omega arith
 
-is_skipped-append : (ss ts : List (ItemId × ℕ)) (i : ItemId) (u : ℕ) → is_skipped (ss ++ ts) i u ≡ (is_skipped ss i u || is_skipped ts i u)
+pub is_skipped-append : (ss ts : List (ItemId × ℕ)) (i : ItemId) (u : ℕ) → is_skipped (ss ++ ts) i u ≡ (is_skipped ss i u || is_skipped ts i u)
 is_skipped-append [] ts i u = refl
 is_skipped-append (s ∷ ss) ts i u = by_test (same_cell s.0 s.1 i u) (is_skipped-append ss ts i u)
   where
@@ -162,7 +163,7 @@ skipped_alone s (After i) u is = absurd (true≢false (sym is))
 skipped_alone s End u is = absurd (true≢false (sym is))
 
 alone_skipped : (s : ItemId × ℕ) (u : ℕ) → u ≡ s.1 → is_skipped_at (s ∷ []) (At s.0) u ≡ true
-alone_skipped s u is = rw (eq-true s.0.tick s.0.tick refl, eq-true s.0.replica s.0.replica refl, eq-true s.1 u (sym is)) refl
+alone_skipped s u is = rw (eq-eqb s.0.tick s.0.tick refl, eq-eqb s.0.replica s.0.replica refl, eq-eqb s.1 u (sym is)) refl
 
 pub learned_restored : (units : ℕ) (before after here : Known) (there : Ticks) (lo hi : Cut) (ss : List (ItemId × ℕ)) (s : ItemId × ℕ) → HasTicks units before (learned lo hi ss (tick_at here) there) → Restores units before after here s.0 s.1 → HasTicks units after (learned lo hi (ss ++ s ∷ []) (tick_at here) there)
 learned_restored units before after here there lo hi ss s ticks restores q u r place within =

@@ -1,11 +1,13 @@
 -- Rows: one clock vector for each unit.
 use Rattle.std.proofs.lemmas.List.{append-nil, append_assoc}
 use Rattle.std.proofs.Common.{◌≡◌, ◌≢◌, ◌⊎◌, ℕ, zero, suc, ◌+◌, ◌-◌, ◌<◌, ◌≤◌, ◌&&◌, Bool, true, false, true≢false, if◌then◌else◌, nat_eq, inl, inr, arith, refl, sym, ap, subst, ◌∙◌, List, [], ◌∷◌, ◌++◌}
+use Rattle.std.proofs.lemmas.Bool.{eq-eqb, ne_eqb, eqb-true, cases_lt, cases_eq}
 use Rattle.sfx_vector.specs.Clocks.{Clocks, AreClocks, tick_of}
-use Rattle.sfx_vector.proofs.Entries.{lt_or_le, same_or_not, same_ticks}
+use Rattle.sfx_vector.proofs.Entries.{same_ticks}
+use Rattle.sfx_segments.proofs.Tested.{yes_it, not_it, tested}
 use Rattle.sfx_knowledge.specs.Row.{UnitClocks, listed_or, row_at, AreExceptions, IsRow, ChangesUnit}
 use Rattle.sfx_knowledge.specs.Forms.{same_clocks, exceptions_of, row_of, same_exceptions, same_row}
-use Rattle.sfx_knowledge.proofs.Compares.{eq-true, eq-false, eq-is, and-left, and-right, and-true, yes_it, not_it, tested}
+use Rattle.sfx_knowledge.proofs.Compares.{and-left, and-right, and-true}
 use Rattle.sfx_knowledge.proofs.Clocks.{same_clocks-is, same_clocks-self}
 
 abbrev pub made : Clocks → List (ℕ × Clocks) → UnitClocks
@@ -14,10 +16,10 @@ made base others = record { base = base; others = others }
 -- ---- the vector of a unit
 
 pub listed-here : (base : Clocks) (o : ℕ × Clocks) (os : List (ℕ × Clocks)) (u : ℕ) → o.0 ≡ u → listed_or base (o ∷ os) u ≡ o.1
-listed-here base o os u is = ap (λ b. if b then o.1 else listed_or base os u) (eq-true o.0 u is)
+listed-here base o os u is = ap (λ b. if b then o.1 else listed_or base os u) (eq-eqb o.0 u is)
 
 pub listed-past : (base : Clocks) (o : ℕ × Clocks) (os : List (ℕ × Clocks)) (u : ℕ) → o.0 ≢ u → listed_or base (o ∷ os) u ≡ listed_or base os u
-listed-past base o os u other = ap (λ b. if b then o.1 else listed_or base os u) (eq-false o.0 u other)
+listed-past base o os u other = ap (λ b. if b then o.1 else listed_or base os u) (ne_eqb o.0 u other)
 
 -- below all exceptions there is the base
 pub listed-below : (units : ℕ) (base : Clocks) (low : ℕ) (os : List (ℕ × Clocks)) (u : ℕ) → AreExceptions units base low os → u < low → listed_or base os u ≡ base
@@ -63,7 +65,7 @@ same_list units base low (o ∷ os) (p ∷ ps) form_o form_p alike =
     let first : o.0 ≡ p.0 = omega arith in
     let second : o.1 ≡ p.1 =
     sym (listed-here base o os o.0 refl) ∙ alike o.0 form_o.1 ∙ listed-here base p ps o.0 (sym first) in
-    let rest : (u : ℕ) → u < units → listed_or base os u ≡ listed_or base ps u = λ u within. elim (same_or_not o.0 u) [
+    let rest : (u : ℕ) → u < units → listed_or base os u ≡ listed_or base ps u = λ u within. elim (cases_eq o.0 u) [
       | inl is ↦
           listed-below units base (o.0 + 1) os u form_o.4 (omega arith)
           ∙ sym (listed-below units base (p.0 + 1) ps u form_p.4 (omega arith))
@@ -76,7 +78,7 @@ same_list units base low (o ∷ os) (p ∷ ps) form_o form_p alike =
     cc
   where
     not_below : (o : ℕ × Clocks) (os : List (ℕ × Clocks)) (p : ℕ × Clocks) (ps : List (ℕ × Clocks)) → AreExceptions units base low (o ∷ os) → AreExceptions units base low (p ∷ ps) → listed_or base (o ∷ os) o.0 ≡ listed_or base (p ∷ ps) o.0 → p.0 ≤ o.0
-    not_below o os p ps form_o form_p same = elim (lt_or_le o.0 p.0) [
+    not_below o os p ps form_o form_p same = elim (cases_lt o.0 p.0) [
       | inr le ↦ le
       | inl less ↦
           absurd (form_o.3 (sym (listed-here base o os o.0 refl) ∙ same
@@ -140,7 +142,7 @@ listed-exceptions_of base vector unit zero u low high = absurd (omega arith)
 listed-exceptions_of base vector unit (suc count) u low high = elim (tested (same_clocks (vector unit) base)) [
   | yes_it same ↦
       ap (λ os. listed_or base os u) (exceptions-same base vector unit count same)
-      ∙ elim (same_or_not unit u) [
+      ∙ elim (cases_eq unit u) [
         | inl is ↦
             unlisted-below base vector (unit + 1) count u (omega arith)
             ∙ sym (same_clocks-is (vector unit) base same) ∙ ap vector is
@@ -148,7 +150,7 @@ listed-exceptions_of base vector unit (suc count) u low high = elim (tested (sam
       ]
   | not_it differ ↦
       ap (λ os. listed_or base os u) (exceptions-differ base vector unit count differ)
-      ∙ elim (same_or_not unit u) [
+      ∙ elim (cases_eq unit u) [
         | inl is ↦ listed-here base (unit, vector unit) (exceptions_of base vector (unit + 1) count) u is ∙ ap vector is
         | inr other ↦
             listed-past base (unit, vector unit) (exceptions_of base vector (unit + 1) count) u other
@@ -167,7 +169,7 @@ IsRow-row_of units vector form = record {
     from_one (suc n) vector form = AreExceptions-exceptions_of (suc n) (vector 0) vector 1 (suc n - 1) (omega arith) (λ u within. form u (inl within))
 
 pub row_at-row_of : (units : ℕ) (vector : ℕ → Clocks) (u : ℕ) → (u < units) ⊎ (u ≡ 0) → row_at (row_of units vector) u ≡ vector u
-row_at-row_of units vector u within = elim (same_or_not u 0) [
+row_at-row_of units vector u within = elim (cases_eq u 0) [
   | inl first ↦ ap (row_at (row_of units vector)) first ∙ at_first (units - 1) ∙ ap vector (sym first)
   | inr other ↦ listed-exceptions_of (vector 0) vector 1 (units - 1) u (omega arith) (omega arith)
 ]
@@ -202,7 +204,7 @@ pub IsRow-parts : (units : ℕ) (vector : ℕ → Clocks) (base : Clocks) (other
 IsRow-parts units vector base others first is form_base form =
     let same : row_of units vector ≡ made base others = rw (first, is) refl in
     subst (IsRow units) same
-    (IsRow-row_of units vector (λ u within. elim (same_or_not u 0) [
+    (IsRow-row_of units vector (λ u within. elim (cases_eq u 0) [
       | inl least ↦ subst AreClocks (first ∙ ap vector (sym least)) form_base
       | inr other ↦ form u (omega arith) (omega arith)
     ]))
@@ -211,8 +213,8 @@ IsRow-parts units vector base others first is form_base form =
 pub put_is : (units : ℕ) (old new : UnitClocks) (unit : ℕ) (vector : Clocks) → unit < units → new ≡ row_of units (λ u. if nat_eq u unit then vector else row_at old u) → ChangesUnit units old new unit vector
 put_is units old new unit vector within is = record {
   changed =
-      at unit within ∙ ap (λ b. if b then vector else row_at old unit) (eq-true unit unit refl);
-  others = λ u inside other. at u inside ∙ ap (λ b. if b then vector else row_at old u) (eq-false u unit other);
+      at unit within ∙ ap (λ b. if b then vector else row_at old unit) (eq-eqb unit unit refl);
+  others = λ u inside other. at u inside ∙ ap (λ b. if b then vector else row_at old u) (ne_eqb u unit other);
 }
   where
     at : (u : ℕ) → u < units → row_at new u ≡ (if nat_eq u unit then vector else row_at old u)
@@ -228,7 +230,7 @@ same_exceptions-is [] (p ∷ ps) same = absurd (true≢false (sym same))
 same_exceptions-is (o ∷ os) [] same = absurd (true≢false (sym same))
 same_exceptions-is (o ∷ os) (p ∷ ps) same =
     let front : (nat_eq o.0 p.0 && same_clocks o.1 p.1) ≡ true = and-left (nat_eq o.0 p.0 && same_clocks o.1 p.1) (same_exceptions os ps) same in
-    let first : o.0 ≡ p.0 = eq-is o.0 p.0 (and-left (nat_eq o.0 p.0) (same_clocks o.1 p.1) front) in
+    let first : o.0 ≡ p.0 = eqb-true o.0 p.0 (and-left (nat_eq o.0 p.0) (same_clocks o.1 p.1) front) in
     let second : o.1 ≡ p.1 = same_clocks-is o.1 p.1 (and-right (nat_eq o.0 p.0) (same_clocks o.1 p.1) front) in
     let tails : os ≡ ps = same_exceptions-is os ps (and-right (nat_eq o.0 p.0 && same_clocks o.1 p.1) (same_exceptions os ps) same) in
     let heads : o ≡ p = same_other o p first second in
@@ -236,7 +238,7 @@ same_exceptions-is (o ∷ os) (p ∷ ps) same =
 
 same_exceptions-self : (os : List (ℕ × Clocks)) → same_exceptions os os ≡ true
 same_exceptions-self [] = refl
-same_exceptions-self (o ∷ os) = rw (eq-true o.0 o.0 refl, same_clocks-self o.1) (same_exceptions-self os)
+same_exceptions-self (o ∷ os) = rw (eq-eqb o.0 o.0 refl, same_clocks-self o.1) (same_exceptions-self os)
 
 pub same_row-is : (a b : UnitClocks) → same_row a b ≡ true → a ≡ b
 same_row-is a b same =

@@ -7,9 +7,12 @@ use Rattle.std.specs.declared.cmp.Ordering.TheVariants.{Less, Equal, Greater}
 use Rattle.std.specs.Ordering.{on, is_lt, ordering_reverse}
 use Rattle.std.proofs.lemmas.Bool.Decides.{nat_tests}
 use Rattle.std.proofs.lemmas.Cmp.{on_total, then_total, nat_cmp_total, tied_itself}
+use Rattle.std.proofs.lemmas.Bool.{eq-eqb, eqb-true}
 use Rattle.sfx_ids.specs.declared.item_id.ItemId.{ItemId}
+use Rattle.sfx_ids.proofs.CutOrder.{is_less}
+use Rattle.sfx_segments.proofs.Tested.{yes_it, not_it, tested}
 use Rattle.sfx_knowledge.specs.Skips.{same_cell, is_skipped, AddsSkip, cell_cmp, cell_lt, GoOnBehind, AreSkips, cell_place}
-use Rattle.sfx_knowledge.proofs.Compares.{eq-true, eq-is, and-left, and-right, or-left, or-right, yes_it, not_it, tested}
+use Rattle.sfx_knowledge.proofs.Compares.{and-left, and-right, or-left, or-right}
 
 -- ---- the order
 
@@ -23,7 +26,7 @@ cells_equal s t equal =
     let tick : s.0.tick ≡ t.0.tick = grind (arith, nat_tests) in
     let replica : s.0.replica ≡ t.0.replica = grind (arith, nat_tests) in
     let unit : s.1 ≡ t.1 = grind (arith, nat_tests) in
-    rw (eq-true s.0.tick t.0.tick tick, eq-true s.0.replica t.0.replica replica, eq-true s.1 t.1 unit) refl
+    rw (eq-eqb s.0.tick t.0.tick tick, eq-eqb s.0.replica t.0.replica replica, eq-eqb s.1 t.1 unit) refl
 
 -- one that is neither before another nor the same is behind it
 behind : (s t : ItemId × ℕ) → cell_lt t s ≡ false → same_cell t.0 t.1 s.0 s.1 ≡ false → cell_lt s t ≡ true
@@ -40,13 +43,13 @@ item_of tick replica = record { tick = tick; replica = replica }
 pub cells_same : (i : ItemId) (u : ℕ) (j : ItemId) (x : ℕ) → same_cell i u j x ≡ true → (i ≡ j) × (u ≡ x)
 cells_same i u j x same =
     let item : (nat_eq i.tick j.tick && nat_eq i.replica j.replica) ≡ true = and-left (nat_eq i.tick j.tick && nat_eq i.replica j.replica) (nat_eq u x) same in
-    let tick : i.tick ≡ j.tick = eq-is i.tick j.tick (and-left (nat_eq i.tick j.tick) (nat_eq i.replica j.replica) item) in
-    let replica : i.replica ≡ j.replica = eq-is i.replica j.replica (and-right (nat_eq i.tick j.tick) (nat_eq i.replica j.replica) item) in
+    let tick : i.tick ≡ j.tick = eqb-true i.tick j.tick (and-left (nat_eq i.tick j.tick) (nat_eq i.replica j.replica) item) in
+    let replica : i.replica ≡ j.replica = eqb-true i.replica j.replica (and-right (nat_eq i.tick j.tick) (nat_eq i.replica j.replica) item) in
     let is : item_of i.tick i.replica ≡ item_of j.tick j.replica = rw (tick, replica) refl in
-    (is, eq-is u x (and-right (nat_eq i.tick j.tick && nat_eq i.replica j.replica) (nat_eq u x) same))
+    (is, eqb-true u x (and-right (nat_eq i.tick j.tick && nat_eq i.replica j.replica) (nat_eq u x) same))
 
 pub cells-self : (i : ItemId) (u : ℕ) → same_cell i u i u ≡ true
-cells-self i u = rw (eq-true i.tick i.tick refl, eq-true i.replica i.replica refl, eq-true u u refl) refl
+cells-self i u = rw (eq-eqb i.tick i.tick refl, eq-eqb i.replica i.replica refl, eq-eqb u u refl) refl
 
 abbrev pair_of : ItemId → ℕ → ItemId × ℕ
 pair_of i u = (i, u)
@@ -55,11 +58,6 @@ same_pair : (s t : ItemId × ℕ) → s.0 ≡ t.0 → s.1 ≡ t.1 → s ≡ t
 same_pair s t item unit =
     let is : pair_of s.0 s.1 ≡ pair_of t.0 t.1 = rw (item, unit) refl in
     is
-
-is_less : (o : Ordering) → is_lt o ≡ true → o ≡ Less
-is_less Less lt = refl
-is_less Equal lt = absurd (true≢false (sym lt))
-is_less Greater lt = absurd (true≢false (sym lt))
 
 cell-trans : (a b c : ItemId × ℕ) → cell_lt a b ≡ true → cell_lt b c ≡ true → cell_lt a c ≡ true
 cell-trans a b c first second = ap is_lt (cell_total.trans a b c (is_less (cell_cmp a b) first) (is_less (cell_cmp b c) second))

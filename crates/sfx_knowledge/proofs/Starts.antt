@@ -1,17 +1,17 @@
 -- The segment of a place, and what is compared where segments begin.
 use Rattle.std.proofs.Common.{◌≡◌, ◌⊎◌, ℕ, zero, suc, ◌+◌, ◌<◌, ◌≤◌, true, inl, inr, arith, refl, sym, ap, subst, ◌∙◌, List, [], ◌∷◌, length, slice_get, Option, Some, None, option_map}
+use Rattle.std.proofs.lemmas.Bool.{cases_lt}
 use Rattle.sfx_ids.specs.declared.cut.Cut.{Cut}
 use Rattle.sfx_ids.specs.declared.cut.Cut.TheVariants.{Start}
 use Rattle.sfx_ids.specs.Cut.{cut_le}
 use Rattle.sfx_ids.proofs.CutOrder.{start-le, le-self, lt-le, not_le, le_trans, le_lt_trans, le_or_lt}
 use Rattle.sfx_vector.specs.Clocks.{tick_of}
-use Rattle.sfx_vector.proofs.Entries.{lt_or_le}
 use Rattle.sfx_segments.specs.Segments.{IsPlace, segment_at, GoOn, AreSegments}
 use Rattle.sfx_segments.proofs.Places.{segment_at-passed, segment_at-ahead, begins_at_place, segment_at-value_at, some_same}
+use Rattle.sfx_segments.proofs.Tested.{yes_it, not_it, tested}
 use Rattle.sfx_knowledge.specs.Row.{UnitClocks, row_at, MostOfRow}
 use Rattle.sfx_knowledge.specs.Knowledge.{Known, no_row, tick_at, IsWithin, IsMost}
 use Rattle.sfx_knowledge.specs.Places.{EveryRow, AtEachStart, WithinAt}
-use Rattle.sfx_knowledge.proofs.Compares.{yes_it, not_it, tested}
 
 -- ---- the segment of a place
 
@@ -88,7 +88,7 @@ abbrev pub EachUpTo : {A : Type 0} → ℕ → List (Cut × A) → (Cut × A →
 EachUpTo {A} n xs P = (k : ℕ) (p : Cut × A) → k < n → slice_get xs k ≡ Some p → P p
 
 pub each_more : {A : Type 0} (n : ℕ) (xs : List (Cut × A)) (P : Cut × A → Type 0) → EachUpTo n xs P → ((p : Cut × A) → slice_get xs n ≡ Some p → P p) → EachUpTo (n + 1) xs P
-each_more n xs P each next k p less at = elim (lt_or_le k n) [
+each_more n xs P each next k p less at = elim (cases_lt k n) [
   | inl lt ↦ each k p lt at
   | inr le ↦
       let is : k ≡ n = omega arith in
@@ -180,7 +180,7 @@ most_none units known r = record { bound = λ k p u less at within. absurd (omeg
 
 pub most_more : (units n : ℕ) (known : Known) (r before most : ℕ) (p : Cut × UnitClocks) → slice_get known n ≡ Some p → MostUpTo units n known r before → MostOfRow units p.1 r before most → MostUpTo units (n + 1) known r most
 most_more units n known r before most p at so_far row = record {
-  bound = λ k s u less here within. by_case k s u here within (lt_or_le k n) less;
+  bound = λ k s u less here within. by_case k s u here within (cases_lt k n) less;
   met = elim row.met [
     | inl is ↦ elim so_far.met [
       | inl none ↦ inl (is ∙ none)

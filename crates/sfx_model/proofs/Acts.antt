@@ -18,7 +18,7 @@ use Rattle.sfx_model.specs.Results.{KeepsOthers, EditResult, StateResult, DeadNo
 use Rattle.sfx_model.specs.Replica.{RepresentsReplica, ActsIn}
 use Rattle.sfx_model.specs.States.{Rises, with_item, with_state, next_created, cells_with, KnowsOthersAlike, next_version, next_item, cells_at, created_contents, edited_contents, deleted_contents}
 use Rattle.sfx_model.proofs.Keeping.{event_keeps}
-use Rattle.sfx_model.proofs.Headline.{no_deletion, cell_there}
+use Rattle.sfx_model.proofs.Headline.{no_deletion, cell_there, cell_with}
 use Rattle.sfx_model.proofs.Replicas.{edit_replica}
 use Rattle.sfx_model.proofs.Sites.{found}
 use Rattle.sfx_model.proofs.Steps.{same_item_self}
@@ -70,17 +70,13 @@ fresh_after :
 fresh_after w s m rep room =
     record { replica = rep.header.id; tick = ap (λ (t : ℕ). t + 1) rep.header.clock; fits = omega arith }
 
--- The cell of a value that is made.
-abbrev cell_of : Version → List ℕ → Cell
-cell_of v value = record { version = v; value = value }
-
 -- The cell of a created unit is that of its value.
 created_cell :
     (v : Version) (c : Cell) (before : Option Cell) (o : Option (List ℕ))
-    → option_map (cell_of v) o ≡ Some c → CellResult v (mark_of (option_map Written o)) before None c
+    → option_map (cell_with v) o ≡ Some c → CellResult v (mark_of (option_map Written o)) before None c
 created_cell v c before None is = absurd (cc)
 created_cell v c before (Some value) is =
-    let same : cell_of v value ≡ c = cc in
+    let same : cell_with v value ≡ c = cc in
     record { version = ap (λ (x : Cell). x.version) (sym same); bytes = ap (λ (x : Cell). x.value) (sym same) }
 
 -- The cells of a creation.
@@ -89,9 +85,9 @@ created_cells :
     → length values ≡ units
     → CellsResult units v (λ u. mark_of (created_contents values u)) before None (cells_at v values)
 created_cells units v values before whole = record {
-  whole = length-map values (cell_of v) ∙ whole;
+  whole = length-map values (cell_with v) ∙ whole;
   each = λ u c here. created_cell v c (cell_at before u) (slice_get values u)
-      (sym (slice_get-map (cell_of v) values u) ∙ here);
+      (sym (slice_get-map (cell_with v) values u) ∙ here);
 }
 
 -- A value of a list that has it.
@@ -175,10 +171,10 @@ edited_cells :
     (units unit : ℕ) (v : Version) (value : List ℕ) (cells : List Cell)
     → length cells ≡ units
     → CellsResult units v (λ u. mark_of (edited_contents unit value u)) (Some (Live cells)) None
-    (slice_set cells unit (cell_of v value))
+    (slice_set cells unit (cell_with v value))
 edited_cells units unit v value cells whole = record {
-  whole = length-set cells unit (cell_of v value) ∙ whole;
-  each = λ u c here. elim (set_cases cells unit u (cell_of v value) c here) [
+  whole = length-set cells unit (cell_with v value) ∙ whole;
+  each = λ u c here. elim (set_cases cells unit u (cell_with v value) c here) [
     | inl (same, is) ↦
         subst (λ (o : Option Content). CellResult v (mark_of o) (slice_get cells u) None c)
         (sym (edited_here unit u value same))
@@ -319,14 +315,14 @@ pub edited_acts :
     → state_of m.items i ≡ Some (Live cells) → Rises w.units m n (with_state i (Live (cells_with m cells unit value)) m.items)
     → ActsIn w (Make m.id i (next_version m) (edited_contents unit value)) m.id n
 edited_acts w m n i unit value cells ok (s, at, is) rising room small live rises =
-    change_acts w m n i (Live (slice_set cells unit (cell_of (next_version m) value))) (edited_contents unit value) ok
+    change_acts w m n i (Live (slice_set cells unit (cell_with (next_version m) value))) (edited_contents unit value) ok
     (s, at, is)
     (state_changes w.units m n i (Live cells) (Live (cells_with m cells unit value)) rising live rises)
     (legal_at w m.id s i (next_version m) (edited_contents unit value) at
     (edited_legal w s m i unit value cells ok is room small live))
-    (LiveNow (slice_set cells unit (cell_of (next_version m) value)) refl
+    (LiveNow (slice_set cells unit (cell_with (next_version m) value)) refl
     (subst (λ (o : Option ItemState). CellsResult w.units (next_version m)
-    (λ u. mark_of (edited_contents unit value u)) o None (slice_set cells unit (cell_of (next_version m) value)))
+    (λ u. mark_of (edited_contents unit value u)) o None (slice_set cells unit (cell_with (next_version m) value)))
     (sym live)
     (edited_cells w.units unit (next_version m) value cells (live_whole w s (shown m) i cells is live))))
 

@@ -16,6 +16,7 @@ use Rattle.sfx_item.specs.declared.cell.Cell.{Cell}
 use Rattle.sfx_knowledge.specs.Knowledge.{Known, HasTicks, IsKnowledge, tick_at, laid_over, learned}
 use Rattle.sfx_knowledge.specs.Skips.{same_cell, is_skipped, is_skipped_at}
 use Rattle.sfx_knowledge.proofs.SkipForms.{cells_same}
+use Rattle.sfx_knowledge.proofs.Ranged.{is_skipped-append}
 use Rattle.sfx_model.specs.declared.absent.Absent.{Absent}
 use Rattle.sfx_model.specs.declared.absent.Absent.TheVariants.{Keep as Kept, Drop as Dropped, Conflict}
 use Rattle.sfx_model.specs.declared.apply_end.ApplyEnd.{ApplyEnd}
@@ -193,17 +194,6 @@ unlisted_alone units b rules m i k orderly has =
     true≢false (sym clashing.clash ∙ apart)
 
 -- ---- the units that are left
-
-skipped_append : (ss ts : List (ItemId × ℕ)) (i : ItemId) (u : ℕ) → is_skipped (ss ++ ts) i u ≡ (is_skipped ss i u || is_skipped ts i u)
-skipped_append [] ts i u = refl
-skipped_append (s ∷ ss) ts i u = by_test (same_cell s.0 s.1 i u) (skipped_append ss ts i u)
-  where
-    by_test :
-        (b : Bool)
-        → is_skipped (ss ++ ts) i u ≡ (is_skipped ss i u || is_skipped ts i u)
-        → (b || is_skipped (ss ++ ts) i u) ≡ ((b || is_skipped ss i u) || is_skipped ts i u)
-    by_test true rest = refl
-    by_test false rest = rest
 
 append_nothing : {A : Type 0} (xs : List A) → xs ++ [] ≡ xs
 append_nothing [] = refl
@@ -387,7 +377,7 @@ so_far_on w units source snapshot b rules p t ts ready fit acts so_far i within 
     left_is : (j : ItemId) (u : ℕ) → is_skipped left j u ≡ (is_skipped (lefts p.entries) j u || is_skipped (left_from (task_item t) 0 plan.draft.marks) j u)
     left_is j u =
         ap (λ (ss : List (ItemId × ℕ)). is_skipped ss j u) (entry_lefts units t plan m p.entries)
-        ∙ skipped_append (lefts p.entries) (left_from (task_item t) 0 plan.draft.marks) j u
+        ∙ is_skipped-append (lefts p.entries) (left_from (task_item t) 0 plan.draft.marks) j u
 
     -- a unit that is not left by now was not left before, nor by this task
     both_free : (j : ItemId) (u : ℕ) → is_skipped left j u ≡ false → (is_skipped (lefts p.entries) j u ≡ false) × (is_skipped (left_from (task_item t) 0 plan.draft.marks) j u ≡ false)

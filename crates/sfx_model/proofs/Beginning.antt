@@ -7,9 +7,10 @@ use Rattle.sfx_ids.specs.declared.cut.Cut.TheVariants.{At}
 use Rattle.sfx_ids.specs.declared.item_id.ItemId.{ItemId}
 use Rattle.sfx_ids.specs.ItemId.{creation_of}
 use Rattle.sfx_vector.specs.Clocks.{tick_of}
-use Rattle.sfx_knowledge.specs.Knowledge.{Known, HasTicks, tick_at}
+use Rattle.sfx_knowledge.specs.Knowledge.{HasTicks, tick_at}
 use Rattle.sfx_knowledge.specs.Forgotten.{Forgets, fvec}
 use Rattle.sfx_knowledge.specs.Skips.{is_skipped}
+use Rattle.sfx_knowledge.proofs.Known.{ticks-self}
 use Rattle.sfx_model.specs.declared.absent.Absent.TheVariants.{Keep as Kept, Drop as Dropped, Conflict}
 use Rattle.sfx_model.specs.declared.mode.Mode.{Mode}
 use Rattle.sfx_model.specs.declared.mode.Mode.TheVariants.{Normal, Recover}
@@ -29,10 +30,11 @@ use Rattle.sfx_model.proofs.Sets.{has_left, has_right}
 use Rattle.sfx_model.proofs.Batching.{IsPending, IsKnownNow, IsGoneNow, RangeSoFar}
 use Rattle.sfx_model.proofs.Classes.{range_listed, range_cleaned, range_unknown}
 use Rattle.sfx_model.proofs.Comparing.{laid_has, item_seen, unit_contained, creation_lacks, forgotten_within}
-use Rattle.sfx_model.proofs.Due.{item_with, has_filter, has_map, state_has, due_has, listed_not, due_batch, due_from}
+use Rattle.sfx_model.proofs.Due.{has_filter, has_map, state_has, due_has, listed_not, due_batch, due_from}
 use Rattle.sfx_model.proofs.Replicas.{one_found}
 use Rattle.sfx_model.proofs.Sites.{found}
 use Rattle.sfx_model.proofs.Sourcing.{IsFrom, Ready, source_carried}
+use Rattle.sfx_model.proofs.Rising.{item_with}
 
 -- In mode Normal the source's forgotten deletions are known at the places of the range.
 abbrev pub ForgottenKnown : ℕ → Mode → Member → Member → (ItemId → Type 0) → Type 0
@@ -57,9 +59,6 @@ known_ticks :
     → Ready w units source m snapshot → HasTicks w.units (laid_known units m) (vector_at m)
 known_ticks w units source m snapshot ready =
     subst (λ (n : ℕ). HasTicks n (laid_known units m) (vector_at m)) (sym ready.count) (laid_has units m ready.orderly)
-
-has_self : (units : ℕ) (known : Known) → HasTicks units known (tick_at known)
-has_self units known place u r at small = refl
 
 -- An item of the source that is not unseen is known.
 seen_known :
@@ -103,7 +102,7 @@ uncreated_known w units source m snapshot b left i ready theirs from lacks = rec
   known = λ s at.
       range_unknown w s (shown m) snapshot i (tick_at b.made_with) (state_of source.items i) (is_skipped left) ready.ok
       (met w units source m snapshot s b i ready theirs from at)
-      (creation_lacks w.units b.made_with (tick_at b.made_with) i (has_self w.units b.made_with)
+      (creation_lacks w.units b.made_with (tick_at b.made_with) i (ticks-self w.units b.made_with)
       (ready.ok.counted s (found w.sites m.id s at).0) lacks);
 }
 

@@ -7,7 +7,7 @@ use Rattle.sfx_ids.specs.Tick.{max_tick}
 use Rattle.sfx_vector.specs.Clocks.{tick_of}
 use Rattle.sfx_knowledge.specs.Row.{row_at}
 use Rattle.sfx_knowledge.specs.Knowledge.{no_row}
-use Rattle.sfx_knowledge.proofs.Forgets.{nothing_form}
+use Rattle.sfx_knowledge.proofs.Forgets.{nothing_form, none_forgotten}
 use Rattle.sfx_knowledge.proofs.Known.{IsKnowledge-nothing}
 use Rattle.sfx_item.specs.Decided.{is_clash}
 use Rattle.sfx_model.specs.Acting.{DeedsContinue, IsOrderly}
@@ -32,11 +32,12 @@ use Rattle.std.specs.Fmt.{digits}
 use Rattle.std.specs.Fmt.Cut.{floor_char_boundary}
 use Rattle.sfx_model.specs.Session.{tasks_of, after_range, go, session_from, session_of}
 use Rattle.sfx_model.proofs.Concluding.{session_state}
-use Rattle.sfx_model.proofs.Due.{item_with, state_has}
+use Rattle.sfx_model.proofs.Due.{state_has}
 use Rattle.sfx_model.proofs.Naming.{IsNamed, clash_lists, tests_apart}
 use Rattle.sfx_model.proofs.Placing.{with_rising}
 use Rattle.sfx_model.proofs.Refusals.{empty_well_formed}
 use Rattle.sfx_model.proofs.Turns.{create_turn, empty_state, join_state, units_state}
+use Rattle.sfx_model.proofs.Rising.{item_with}
 
 -- The members as A creates item after item, and then with B.
 abbrev a_with : ℕ → List MemberItem → Community
@@ -46,16 +47,12 @@ one_vector : (b : Bool) (u r : ℕ) → tick_of (row_at (if b then (record { bas
 one_vector true u r = refl
 one_vector false u r = refl
 
-none_forgotten : (b : Bool) (r : ℕ) → tick_of (if b then [] else []) r ≡ 0
-none_forgotten true r = refl
-none_forgotten false r = refl
-
 new_state : (id : ℕ) → IsNewState 2 id (alone id 0 [])
 new_state id = record {
   id_is = refl;
   clock = refl;
   knowledge = λ place u r inside small other. one_vector (cut_le Start place) u r;
-  forgotten = λ place r inside. none_forgotten (cut_le Start place) r;
+  forgotten = λ place r inside. none_forgotten place r;
   items = refl;
 }
 

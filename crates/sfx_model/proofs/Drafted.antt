@@ -7,8 +7,8 @@ use Rattle.std.proofs.lemmas.Option.{slice_get_within}
 use Rattle.sfx_ids.specs.declared.item_id.ItemId.{ItemId}
 use Rattle.sfx_ids.specs.declared.version.Version.{Version}
 use Rattle.sfx_item.specs.declared.cell.Cell.{Cell}
+use Rattle.sfx_segments.proofs.Tested.{Tested, yes_it, not_it, tested}
 use Rattle.sfx_knowledge.specs.Skips.{is_skipped, same_cell}
-use Rattle.sfx_knowledge.proofs.Compares.{Tested, yes_it, not_it, tested}
 use Rattle.sfx_knowledge.proofs.SkipForms.{cells_same}
 use Rattle.sfx_model.specs.declared.mark.Mark.{Mark}
 use Rattle.sfx_model.specs.declared.mark.Mark.TheVariants.{Stays, Taken, Stamped, Left, Gone}

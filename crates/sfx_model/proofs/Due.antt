@@ -2,7 +2,7 @@
 -- range is one of a task, or known, or gone from both sides.
 use Rattle.std.proofs.Common.{◌≡◌, ◌≢◌, ◌⊎◌, ℕ, zero, suc, ◌≤◌, ◌&&◌, ◌||◌, not, nat_lt, Bool, true, false, true≢false, if◌then◌else◌, List, [], ◌∷◌, ◌++◌, length, map, take, Option, Some, None, arith, inl, inr, refl, sym, ◌∙◌, ap, subst}
 use Rattle.std.specs.List.{filter}
-use Rattle.std.proofs.lemmas.Bool.{and_parts}
+use Rattle.std.proofs.lemmas.Bool.{and_parts, not-true}
 use Rattle.std.proofs.lemmas.Bool.Decides.{nat_tests}
 use Rattle.sfx_ids.specs.declared.cut.Cut.{Cut}
 use Rattle.sfx_ids.specs.declared.cut.Cut.TheVariants.{At, After, End}
@@ -25,7 +25,7 @@ use Rattle.sfx_model.specs.Session.{is_among, is_kept, is_unlisted, unlisted, is
 use Rattle.sfx_model.proofs.Batching.{NoneUnlisted, NotUnlisted, IsUnlistedHere, AllFit}
 use Rattle.sfx_model.proofs.Bounds.{has_taken, has_filtered}
 use Rattle.sfx_model.proofs.Counting.{state_there}
-use Rattle.sfx_model.proofs.Rising.{before_differs}
+use Rattle.sfx_model.proofs.Rising.{before_differs, item_with}
 use Rattle.sfx_model.proofs.Sourcing.{IsFrom}
 use Rattle.sfx_model.proofs.Steps.{same_item_is, same_item_self}
 
@@ -55,9 +55,6 @@ rising_filter test (x ∷ xs) rising = by_test (rising_filter test xs rising.1) 
     by_test : AreRising (filter test xs) → (b : Bool) → AreRising (let r : List MemberItem = if b then x ∷ filter test xs else filter test xs in r)
     by_test rest true = (λ y has. rising.0 y (has_filtered test y xs has).1, rest)
     by_test rest false = rest
-
-abbrev pub item_with : ItemId → ItemState → MemberItem
-item_with i state = record { id = i; state = state }
 
 item_is : (x : MemberItem) (i : ItemId) (state : ItemState) → x.id ≡ i → x.state ≡ state → item_with i state ≡ x
 item_is x i state same is = let e : item_with i state ≡ item_with x.id x.state = rw (same, is) refl in e
@@ -246,10 +243,6 @@ pub due_from : (units : ℕ) (source : Member) (mode : Mode) (size : ℕ) (m : M
 unfolding batch_from
 due_from units source mode size m from = record { source_is = refl; made_with = refl; forgotten = refl }
 
-not_is : (b : Bool) → not b ≡ true → b ≡ false
-not_is true e = absurd (true≢false (sym e))
-not_is false e = refl
-
 unlisted_here :
     (units : ℕ) (source : Member) (size : ℕ) (m : Member) (from : Cut) (x : MemberItem)
     → IsOrderly units m → Has x (filter (is_unlisted units (due_batch units source Recover size m from) m) m.items)
@@ -264,7 +257,7 @@ unlisted_here units source size m from x orderly has =
     let second = and_parts (not (is_among (ids_in from (due_end units size (laid_known units m) from source.items) source.items) x.id))
     (not (is_kept (absent_class_of units (laid_known units m) (laid_known units source) source.forgotten x))) first.1 in
     record {
-      there = none_there (state_of source.items x.id) refl first.0 (not_is (is_among (ids_in from (due_end units size (laid_known units m) from source.items) source.items) x.id) second.0);
+      there = none_there (state_of source.items x.id) refl first.0 (not-true (is_among (ids_in from (due_end units size (laid_known units m) from source.items) source.items) x.id) second.0);
       mode = refl;
       held = (x.state, state_there m.items x orderly.rising there);
     }

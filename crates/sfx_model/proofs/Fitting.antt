@@ -9,7 +9,6 @@ use Rattle.sfx_vector.specs.Clocks.{tick_of}
 use Rattle.sfx_item.specs.declared.cell.Cell.{Cell}
 use Rattle.sfx_knowledge.specs.Knowledge.{Known, HasTicks, tick_at}
 use Rattle.sfx_knowledge.specs.Forgotten.{Forgets, fvec}
-use Rattle.sfx_knowledge.proofs.Compares.{Tested, yes_it, not_it, tested}
 use Rattle.sfx_model.specs.declared.absent.Absent.{Absent}
 use Rattle.sfx_model.specs.declared.absent.Absent.TheVariants.{Keep as Kept, Drop as Dropped, Conflict}
 use Rattle.sfx_model.specs.declared.keep.Keep.{Keep}
@@ -29,11 +28,14 @@ use Rattle.sfx_model.specs.Rules.{Rules}
 use Rattle.sfx_model.specs.Snapshots.{Meets, HasContained}
 use Rattle.sfx_model.specs.Units.{each_unit, at_unit}
 use Rattle.std.proofs.lemmas.List.{length-map}
+use Rattle.sfx_segments.proofs.Tested.{Tested, yes_it, not_it, tested}
+use Rattle.sfx_knowledge.proofs.Known.{ticks-self}
 use Rattle.sfx_model.proofs.PerUnit.{at_each, at_map, length_each, all_at}
 use Rattle.sfx_model.proofs.Headline.{cell_there}
 use Rattle.sfx_model.proofs.Classes.{known_here, newer_taken, new_taken, cleaned_taken, dropped_legal, range_cleaned, range_unknown}
 use Rattle.sfx_model.proofs.Comparing.{item_seen, unit_contained, creation_lacks, forgotten_within}
 use Rattle.sfx_model.proofs.Shaping.{IsLiveUnit, IsShaped, MakesLive, LeavesAll, MarkFits, DraftFits, HasCells, cells_held, marked_have, value_there, whole_shape, whole_fits, stays_shape, gone_shape, taken_shape}
+use Rattle.sfx_model.proofs.Rising.{item_with}
 
 -- ---- units of an item that is live on both sides
 
@@ -120,9 +122,6 @@ pub record Compared (w : World) (s : Site) (m : Member) (snapshot : Snapshot) (i
 some_units : (w : World) (s : Site) (m : Member) (snapshot : Snapshot) (i : ItemId) (known made_with : Known) (seen : Option ItemState) → Compared w s m snapshot i known made_with seen → 1 ≤ w.units
 some_units w s m snapshot i known made_with seen c = c.ok.counted s c.meets.here
 
-has_self : (units : ℕ) (known : Known) → HasTicks units known (tick_at known)
-has_self units known place u r at small = refl
-
 -- A unit that is not unseen here may stay.
 unit_known :
     (w : World) (s : Site) (m : Member) (snapshot : Snapshot) (i : ItemId) (known made_with : Known) (state : ItemState) (u : ℕ)
@@ -138,7 +137,7 @@ local_contained :
     → Compared w s m snapshot i known made_with seen → state_of m.items i ≡ Some local → u < w.units
     → is_unseen_at made_with i local u ≡ false → HasContained local u (tick_at made_with (At i) u)
 local_contained w s m snapshot i known made_with seen local u c at small known_there =
-    unit_contained w.units made_with (tick_at made_with) w.records i (holding s i) local u (has_self w.units made_with)
+    unit_contained w.units made_with (tick_at made_with) w.records i (holding s i) local u (ticks-self w.units made_with)
     (subst (λ (o : Option ItemState). ItemRepresents w.units w.records i (holding s i) o) at (c.meets.represents.items i)) small
     known_there
 
@@ -211,7 +210,7 @@ absent_fits w s m snapshot rules i known made_with state c at =
         (draft_of w.units rules (if is_forgotten_within w.units m.forgotten made_with i then TakeWhole else WholeConflict) (Some state) None)
     by_within (yes_it e) = rw e (taken_fits w s snapshot i state None has (λ u small.
         cleaned_taken w s (shown m) snapshot i (tick_at made_with) state u c.ok c.meets at small
-        (forgotten_within w.units m.forgotten made_with (tick_at made_with) i (has_self w.units made_with) e)))
+        (forgotten_within w.units m.forgotten made_with (tick_at made_with) i (ticks-self w.units made_with) e)))
     by_within (not_it e) = rw e (conflict_fits w s snapshot i rules.keep (Some state) None has tt)
 
     by_creation :
@@ -223,31 +222,28 @@ absent_fits w s m snapshot rules i known made_with state c at =
         new_taken w s (shown m) snapshot i (tick_at made_with) state u c.ok c.meets
         (creation_lacks w.units known (vector_at m) i c.knows (some_units w s m snapshot i known made_with (Some state) c) e)))
 
-abbrev member_item : ItemId → ItemState → MemberItem
-member_item i state = record { id = i; state = state }
-
 -- A change of an item that the destination has, as a whole.
 whole_class_fits :
     (w : World) (s : Site) (m : Member) (snapshot : Snapshot) (rules : Rules) (i : ItemId) (known made_with : Known) (state local : ItemState)
     → Compared w s m snapshot i known made_with (Some state) → state_of m.items i ≡ Some local
     → Fits w s snapshot i (Some state) (Some local)
-    (draft_of w.units rules (whole_change w.units made_with (member_item i local)) (Some state) (Some local))
+    (draft_of w.units rules (whole_change w.units made_with (item_with i local)) (Some state) (Some local))
 whole_class_fits w s m snapshot rules i known made_with state local c at =
-    by_unseen (tested (is_unseen w.units made_with (member_item i local)))
+    by_unseen (tested (is_unseen w.units made_with (item_with i local)))
   where
     has : HasCells w.units (Some state)
     has = seen_cells w s m snapshot i known made_with (Some state) c
 
     by_unseen :
-        Tested (is_unseen w.units made_with (member_item i local))
+        Tested (is_unseen w.units made_with (item_with i local))
         → Fits w s snapshot i (Some state) (Some local)
-        (draft_of w.units rules (whole_change w.units made_with (member_item i local)) (Some state) (Some local))
+        (draft_of w.units rules (whole_change w.units made_with (item_with i local)) (Some state) (Some local))
     by_unseen (yes_it e) =
         rw e (conflict_fits w s snapshot i rules.keep (Some state) (Some local) has
         (here_cells w s m snapshot i known made_with (Some state) (Some local) c at))
     by_unseen (not_it e) = rw e (taken_fits w s snapshot i state (Some local) has (λ u small.
         unit_taken w s m snapshot i known made_with state local u c at small
-        (item_seen w.units made_with (member_item i local) u e small)))
+        (item_seen w.units made_with (item_with i local) u e small)))
 
 -- The mark of a unit of this class fits.
 class_mark_fits :
@@ -342,7 +338,7 @@ pub unlisted_fits :
     → ((r : ℕ) → tick_of (fvec forgotten (At i)) r ≡ snapshot.forgotten (At i) r)
     → ((r : ℕ) → snapshot.forgotten (At i) r ≤ tick_of (fvec m.forgotten (At i)) r)
     → Fits w s snapshot i None (Some local)
-    (absent_draft w.units keep (absent_class_of w.units known made_with forgotten (member_item i local)) (Some local))
+    (absent_draft w.units keep (absent_class_of w.units known made_with forgotten (item_with i local)) (Some local))
 unfolding absent_class_of
 unlisted_fits w s m snapshot keep i known made_with forgotten local c at same joined =
     by_within (tested (is_forgotten_within w.units forgotten known i))
@@ -363,12 +359,12 @@ unlisted_fits w s m snapshot keep i known made_with forgotten local c at same jo
         subst (λ (b : Bool). goal (if b then Conflict else Kept)) (sym e)
         (stays_fits w s snapshot i None (Some local) (λ u small.
         range_unknown w s (shown m) snapshot i (tick_at made_with) None none_left c.ok c.meets
-        (creation_lacks w.units made_with (tick_at made_with) i (has_self w.units made_with)
+        (creation_lacks w.units made_with (tick_at made_with) i (ticks-self w.units made_with)
         (some_units w s m snapshot i known made_with None c) e) u refl))
 
     by_local :
-        Tested (is_unseen w.units made_with (member_item i local))
-        → goal (if is_unseen w.units made_with (member_item i local) then (if knows_version made_with i 0 (creation_of i) then Conflict else Kept) else Dropped)
+        Tested (is_unseen w.units made_with (item_with i local))
+        → goal (if is_unseen w.units made_with (item_with i local) then (if knows_version made_with i 0 (creation_of i) then Conflict else Kept) else Dropped)
     by_local (yes_it e) =
         subst (λ (b : Bool). goal (if b then (if knows_version made_with i 0 (creation_of i) then Conflict else Kept) else Dropped)) (sym e)
         (by_creation (tested (knows_version made_with i 0 (creation_of i))))
@@ -378,21 +374,21 @@ unlisted_fits w s m snapshot keep i known made_with forgotten local c at same jo
           λ u small. subst (λ (k : Mark). MarkFits w s snapshot i u k) (sym (marked_have w.units Gone None u small))
               (dropped_legal w s (shown m) snapshot i (tick_at made_with) local u c.ok c.meets at small
               (local_contained w s m snapshot i known made_with None local u c at small
-              (item_seen w.units made_with (member_item i local) u e small)) joined),
+              (item_seen w.units made_with (item_with i local) u e small)) joined),
         )
 
     by_within :
         Tested (is_forgotten_within w.units forgotten known i)
         → goal (if is_forgotten_within w.units forgotten known i then Kept
-        else (if is_unseen w.units made_with (member_item i local) then (if knows_version made_with i 0 (creation_of i) then Conflict else Kept) else Dropped))
+        else (if is_unseen w.units made_with (item_with i local) then (if knows_version made_with i 0 (creation_of i) then Conflict else Kept) else Dropped))
     by_within (yes_it e) =
         subst (λ (b : Bool). goal (if b then Kept
-        else (if is_unseen w.units made_with (member_item i local) then (if knows_version made_with i 0 (creation_of i) then Conflict else Kept) else Dropped))) (sym e)
+        else (if is_unseen w.units made_with (item_with i local) then (if knows_version made_with i 0 (creation_of i) then Conflict else Kept) else Dropped))) (sym e)
         (stays_fits w s snapshot i None (Some local) (λ u small.
         range_cleaned w s (shown m) snapshot i (tick_at made_with) none_left c.ok c.meets
         (λ x r below. subst (λ (t : ℕ). t ≤ vector_at m (At i) x r) (same r)
         (forgotten_within w.units forgotten known (vector_at m) i c.knows e x r below)) u refl))
     by_within (not_it e) =
         subst (λ (b : Bool). goal (if b then Kept
-        else (if is_unseen w.units made_with (member_item i local) then (if knows_version made_with i 0 (creation_of i) then Conflict else Kept) else Dropped))) (sym e)
-        (by_local (tested (is_unseen w.units made_with (member_item i local))))
+        else (if is_unseen w.units made_with (item_with i local) then (if knows_version made_with i 0 (creation_of i) then Conflict else Kept) else Dropped))) (sym e)
+        (by_local (tested (is_unseen w.units made_with (item_with i local))))

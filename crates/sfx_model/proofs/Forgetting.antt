@@ -16,10 +16,11 @@ use Rattle.sfx_knowledge.specs.Forms.{AreTicks, ArePlaces, AreReplicas, ChangeAt
 use Rattle.sfx_knowledge.proofs.Clocks.{AreReplicas-append, AreReplicas-listed_in, listed-append, tick-most, tick-unlisted}
 use Rattle.sfx_knowledge.proofs.RowForms.{row_at-first}
 use Rattle.sfx_knowledge.proofs.Known.{row_at_place}
-use Rattle.sfx_knowledge.proofs.Making.{form-knowledge_of, ticks-knowledge_of, segment-unparted}
+use Rattle.sfx_knowledge.proofs.Making.{form-knowledge_of, ticks-knowledge_of, segment-unparted, ArePlaces-behind}
 use Rattle.sfx_knowledge.proofs.Forgets.{same_forgets}
 use Rattle.sfx_model.specs.Knowing.{forgets_starts, forgets_replicas, joined_forgets}
-use Rattle.sfx_model.proofs.Storing.{unparted_append, places_append}
+use Rattle.sfx_model.proofs.Knowing.{ArePlaces-append}
+use Rattle.sfx_model.proofs.Storing.{unparted_append}
 
 -- ---- the replicas and places of a list
 
@@ -46,14 +47,10 @@ replicas_listed (p ∷ ps) form =
     (AreReplicas-listed_in 0 p.1 (subst AreClocks (passed Start ∙ at_start Start p.1 ps on) (form.clocks Start tt)))
     (replicas_behind Start p.1 ps on (λ q at le. subst AreClocks (passed q) (form.clocks q at)))
 
-starts_behind : (from : Cut) (value : Clocks) (ps : Forgets) → GoOn from value ps → ArePlaces (forgets_starts ps)
-starts_behind from value [] on = tt
-starts_behind from value (p ∷ ps) on = (on.1, starts_behind p.0 p.1 ps on.3)
-
 starts_placed : (a : Forgets) → AreForgets a → ArePlaces (forgets_starts a)
 starts_placed [] form = tt
 starts_placed (p ∷ ps) form =
-    (subst IsPlace (sym form.segments.0) tt, starts_behind p.0 p.1 ps form.segments.1)
+    (subst IsPlace (sym form.segments.0) tt, ArePlaces-behind p.0 p.1 ps form.segments.1)
 
 unlisted_from :
     (before : Clocks) (ps : Forgets) (q : Cut) (r : ℕ)
@@ -98,7 +95,7 @@ both_are a b form_a form_b = record {
 both_change :
     (a b : Forgets) → AreForgets a → AreForgets b → ChangeAtAlone 1 (forgets_starts a ++ forgets_starts b) (both_ticks a b)
 both_change a b form_a form_b = record {
-  places = places_append (forgets_starts a) (forgets_starts b) (starts_placed a form_a) (starts_placed b form_b);
+  places = ArePlaces-append (forgets_starts a) (forgets_starts b) (starts_placed a form_a) (starts_placed b form_b);
   alike = λ p q u r at_p at_q small le none.
       let (ours, theirs) = unparted_append (forgets_starts a) (forgets_starts b) p q none in
       let first : fvec a p ≡ fvec a q = segment-unparted [] a p q le ours in

@@ -138,7 +138,7 @@ same_cells (x ∷ xs) (y ∷ ys) same each =
     let rest : xs ≡ ys = same_cells xs ys (omega arith) (λ u. each (suc u)) in
     cc
 
-abbrev cell_with : Version → List ℕ → Cell
+abbrev pub cell_with : Version → List ℕ → Cell
 cell_with v value = record { version = v; value = value }
 
 -- A cell is its version and its value

@@ -1,6 +1,7 @@
 -- Whether forgotten deletions are known, and what knowledge is after learning.
 use Rattle.std.proofs.Common.{◌≡◌, ◌≢◌, ◌↔◌, ℕ, zero, suc, ◌<◌, ◌≤◌, max, Bool, true, false, true≢false, IsTrue, not, ◌&&◌, ◌||◌, if◌then◌else◌, nat_eq, nat_le, arith, refl, sym, ap, subst, ◌∙◌, List, [], ◌∷◌, ◌++◌}
 use Rattle.std.specs.List.{list_all}
+use Rattle.std.proofs.lemmas.Bool.{eqb-true, eq-eqb}
 use Rattle.sfx_ids.specs.Tick.{max_tick}
 use Rattle.sfx_ids.specs.declared.cut.Cut.{Cut}
 use Rattle.sfx_ids.specs.declared.cut.Cut.TheVariants.{Start, At, After, End}
@@ -9,12 +10,13 @@ use Rattle.sfx_ids.specs.Cut.{cut_le, cut_lt, is_between}
 use Rattle.sfx_ids.proofs.CutOrder.{le-not_lt, not_le, le_trans, alone, le-self, at-lt-after}
 use Rattle.sfx_vector.specs.Clocks.{Clocks, tick_of}
 use Rattle.sfx_segments.specs.Segments.{IsPlace}
+use Rattle.sfx_segments.proofs.Tested.{yes_it, not_it, tested}
 use Rattle.sfx_knowledge.specs.Row.{UnitClocks, row_at}
 use Rattle.sfx_knowledge.specs.Knowledge.{Known, no_row, clocks_at, tick_at, IsKnowledge, HasTicks, learned}
 use Rattle.sfx_knowledge.specs.Skips.{same_cell, is_skipped_at}
 use Rattle.sfx_knowledge.specs.Forgotten.{Forgets, fvec, IsForgottenWithinAt}
 use Rattle.sfx_knowledge.specs.Forms.{listed_in, is_listed, replicas_of, starts_of, AreTicks, ArePlaces, is_parted, ChangeAtAlone}
-use Rattle.sfx_knowledge.proofs.Compares.{tested, yes_it, not_it, and-left, and-right, and-true, or-left, or-right, eq-is, eq-true}
+use Rattle.sfx_knowledge.proofs.Compares.{and-left, and-right, and-true, or-left, or-right}
 use Rattle.sfx_knowledge.proofs.Clocks.{AreReplicas-append, listed-append, tick-unlisted, tick-most}
 use Rattle.sfx_knowledge.proofs.Known.{AreClocks-clocks_at}
 use Rattle.sfx_knowledge.proofs.SkipForms.{cells_same}
@@ -34,7 +36,7 @@ le-true a b le = grind (arith, le)
 listed_passes : (test : ℕ → Bool) (rs : List ℕ) (r : ℕ) → list_all test rs ≡ true → is_listed rs r ≡ true → test r ≡ true
 listed_passes test [] r all listed = absurd (true≢false (sym listed))
 listed_passes test (x ∷ xs) r all listed = elim (tested (nat_eq x r)) [
-  | yes_it same ↦ subst (λ (y : ℕ). test y ≡ true) (eq-is x r same) (and-left (test x) (list_all test xs) all)
+  | yes_it same ↦ subst (λ (y : ℕ). test y ≡ true) (eqb-true x r same) (and-left (test x) (list_all test xs) all)
   | not_it not ↦ listed_passes test xs r (and-right (test x) (list_all test xs) all) (sym (ap (λ (b : Bool). b || is_listed xs r) not) ∙ listed)
 ]
 
@@ -58,9 +60,9 @@ within_true clocks known place u each =
 pub every_is : (test : ℕ → Bool) (units : ℕ) → every_unit test units ≡ true → (u : ℕ) → u < units → test u ≡ true
 every_is test zero all u low = absurd (omega (arith, low))
 every_is test (suc n) all u low = elim (tested (nat_eq u n)) [
-  | yes_it same ↦ subst (λ (y : ℕ). test y ≡ true) (sym (eq-is u n same)) (and-left (test n) (every_unit test n) all)
+  | yes_it same ↦ subst (λ (y : ℕ). test y ≡ true) (sym (eqb-true u n same)) (and-left (test n) (every_unit test n) all)
   | not_it not ↦ every_is test n (and-right (test n) (every_unit test n) all) u
-      (let differ : u ≢ n = λ e. true≢false (sym (eq-true u n e) ∙ not) in grind (arith, low, differ))
+      (let differ : u ≢ n = λ e. true≢false (sym (eq-eqb u n e) ∙ not) in grind (arith, low, differ))
 ]
 
 pub every_true : (test : ℕ → Bool) (units : ℕ) → ((u : ℕ) → u < units → test u ≡ true) → every_unit test units ≡ true
@@ -86,7 +88,7 @@ parted-append (c ∷ cs) ds p q not =
       rest.1,
     )
 
-ArePlaces-append : (cs ds : List Cut) → ArePlaces cs → ArePlaces ds → ArePlaces (cs ++ ds)
+pub ArePlaces-append : (cs ds : List Cut) → ArePlaces cs → ArePlaces ds → ArePlaces (cs ++ ds)
 ArePlaces-append [] ds first second = second
 ArePlaces-append (c ∷ cs) ds first second = (first.0, ArePlaces-append cs ds first.1 second)
 

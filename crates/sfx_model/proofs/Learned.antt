@@ -14,7 +14,7 @@ use Rattle.sfx_knowledge.specs.Knowledge.{Known, Ticks, HasTicks, tick_at, learn
 use Rattle.sfx_knowledge.specs.Forgotten.{Forgets, ForgotBoth, fvec}
 use Rattle.sfx_model.specs.Events.{UnitMark, Stays, Taken, Stamped, Left, Gone, same_item}
 use Rattle.sfx_model.specs.Members.{Member, shown, vector_at}
-use Rattle.sfx_model.specs.Results.{LearnResult, ForgetResult, SameVectors, SkipsLeft, is_place_of, is_left_at, joined_by, joined_at, with_own}
+use Rattle.sfx_model.specs.Results.{LearnResult, ForgetResult, SameVectors, SkipsLeft, is_place_of, is_left_at, joined_by, joined_at}
 use Rattle.sfx_model.proofs.Steps.{same_item_is, same_item_self}
 
 -- The entry of a replica in ticks with an own one laid over them.
@@ -134,7 +134,7 @@ pub stored_vectors :
     (units : ℕ) (m n : Member) (step : Cut → ℕ → ℕ → ℕ → ℕ) (ticks : Ticks)
     → n.id ≡ m.id → HasTicks units n.knowledge (laid_over m.id 0 ticks)
     → ((place : Cut) (u r : ℕ) → IsPlace place → u < units → ticks place u r ≡ step place u r (tick_at m.knowledge place u r))
-    → SameVectors units (vector_at n) (with_own n.id n.clock (λ place u r. step place u r (vector_at m place u r)))
+    → SameVectors units (vector_at n) (laid_over n.id n.clock (λ place u r. step place u r (vector_at m place u r)))
 stored_vectors units m n step ticks same has each place u r at small =
     elim (cases_eq r n.id) [
       | inl own ↦ rw (eq-eqb r n.id own) refl
@@ -151,7 +151,7 @@ pub learned_item :
     (units : ℕ) (m n : Member) (i : ItemId) (marks : ℕ → UnitMark) (skipped : List (ItemId × ℕ)) (there : Ticks)
     → n.id ≡ m.id → SkipsLeft units i marks skipped
     → HasTicks units n.knowledge (laid_over m.id 0 (learned (At i) (After i) skipped (tick_at m.knowledge) there))
-    → SameVectors units (vector_at n) (with_own n.id n.clock (joined_at i marks (vector_at m) there))
+    → SameVectors units (vector_at n) (laid_over n.id n.clock (joined_at i marks (vector_at m) there))
 learned_item units m n i marks skipped there same skips has =
     stored_vectors units m n (λ place u r t. if is_place_of i place then joined_by (marks u) t (there place u r) else t)
     (learned (At i) (After i) skipped (tick_at m.knowledge) there) same has

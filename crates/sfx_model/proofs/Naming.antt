@@ -1,13 +1,13 @@
 -- Live names that do not clash, and what an entry and its rule make of them.
 use Rattle.std.proofs.Common.{◌≡◌, ◌≢◌, ℕ, not, Bool, true, false, true≢false, if◌then◌else◌, List, [], ◌∷◌, Option, Some, None, inl, inr, refl, sym, ◌∙◌, ap, subst}
 use Rattle.std.specs.Option.{option_map_or}
-use Rattle.std.proofs.lemmas.Bool.{and_parts}
+use Rattle.std.proofs.lemmas.Bool.{and_parts, not-true}
 use Rattle.sfx_ids.specs.declared.item_id.ItemId.{ItemId}
 use Rattle.sfx_item.specs.declared.cell.Cell.{Cell}
 use Rattle.sfx_item.specs.Clash.{Clash}
 use Rattle.sfx_item.specs.Decided.{is_clash}
 use Rattle.sfx_item.proofs.Decisions.{clash_decided, clash_symmetric}
-use Rattle.sfx_knowledge.proofs.Compares.{Tested, yes_it, not_it, tested}
+use Rattle.sfx_segments.proofs.Tested.{Tested, yes_it, not_it, tested}
 use Rattle.sfx_model.specs.Sets.{Has}
 use Rattle.sfx_model.specs.Consistent.{live_name, AreApart}
 use Rattle.sfx_model.specs.Events.{same_item}
@@ -39,10 +39,6 @@ pub record IsClashing (items : List MemberItem) (i : ItemId) (name : List ℕ) (
   pub clash : is_clash name own ≡ true
   pub item : (x : MemberItem) × Has x items × (x.id ≡ j)
 
-not_true : (b : Bool) → not b ≡ true → b ≡ false
-not_true true e = absurd (true≢false (sym e))
-not_true false e = refl
-
 clashing_name : (name : List ℕ) (o : Option (List ℕ)) → option_map_or (λ own. is_clash name own) o false ≡ true → (own : List ℕ) × (o ≡ Some own) × (is_clash name own ≡ true)
 clashing_name name None e = absurd (true≢false (sym e))
 clashing_name name (Some own) e = (own, refl, e)
@@ -72,7 +68,7 @@ clash_listed (x ∷ xs) i name j rising has =
         let (own, live, clash) = clashing_name name (live_name x.state) parts.1 in
         record {
           other = λ is. true≢false (sym (subst (λ (k : ItemId). same_item k x.id ≡ true) (sym same ∙ is) (same_item_self x.id))
-              ∙ not_true (same_item i x.id) parts.0);
+              ∙ not-true (same_item i x.id) parts.0);
           own = own;
           named = record {
             state = x.state;

@@ -7,7 +7,7 @@ use Rattle.sfx_ids.specs.declared.item_id.ItemId.{ItemId}
 use Rattle.sfx_item.specs.Decided.{is_clash}
 use Rattle.sfx_item.specs.Renamed.{renamed}
 use Rattle.sfx_item.proofs.Renaming.{one_candidate}
-use Rattle.sfx_knowledge.proofs.Compares.{Tested, yes_it, not_it, tested}
+use Rattle.sfx_segments.proofs.Tested.{Tested, yes_it, not_it, tested}
 use Rattle.sfx_model.specs.Sets.{Has}
 use Rattle.sfx_model.specs.Consistent.{live_name}
 use Rattle.sfx_model.specs.Headline.{live_item, live_items}

@@ -7,11 +7,12 @@ use Rattle.sfx_ids.specs.declared.item_id.ItemId.{ItemId}
 use Rattle.sfx_ids.specs.declared.version.Version.{Version}
 use Rattle.sfx_segments.specs.Segments.{IsPlace}
 use Rattle.sfx_item.specs.declared.cell.Cell.{Cell}
+use Rattle.sfx_knowledge.specs.Knowledge.{laid_over}
 use Rattle.sfx_model.specs.Sets.{Has}
 use Rattle.sfx_model.specs.World.{Record, Site, Holding, holding}
 use Rattle.sfx_model.specs.Events.{same_item}
 use Rattle.sfx_model.specs.Members.{Shown, ItemState, Live, Dead, ItemRepresents, IsLatestState, IsLatestCell, state_of}
-use Rattle.sfx_model.specs.Results.{with_own, SameVectors, KeepsOthers}
+use Rattle.sfx_model.specs.Results.{SameVectors, KeepsOthers}
 use Rattle.sfx_model.proofs.Words.{AreSame, Grows}
 use Rattle.sfx_model.proofs.Sets.{has_left, has_right, has_either}
 use Rattle.sfx_model.proofs.Frame.{latest_stays, dead_at_stays}
@@ -21,14 +22,14 @@ use Rattle.sfx_model.proofs.Standing.{item_on}
 -- The own entry of knowledge with the own clock laid over it.
 pub own_entry :
     (units : ℕ) (m : Shown) (vectors : Cut → ℕ → ℕ → ℕ) (own : ℕ) (place : Cut) (u : ℕ)
-    → SameVectors units m.vector_at (with_own m.id m.clock vectors) → own ≡ m.id → IsPlace place → u < units
+    → SameVectors units m.vector_at (laid_over m.id m.clock vectors) → own ≡ m.id → IsPlace place → u < units
     → m.vector_at place u own ≡ m.clock
 own_entry units m vectors own place u same is there small = same place u own there small ∙ (rw (eq-eqb own m.id is) refl)
 
 -- Every other entry is as it was.
 pub other_entry :
     (units : ℕ) (m : Shown) (vectors : Cut → ℕ → ℕ → ℕ) (place : Cut) (u r : ℕ)
-    → SameVectors units m.vector_at (with_own m.id m.clock vectors) → r ≢ m.id → IsPlace place → u < units
+    → SameVectors units m.vector_at (laid_over m.id m.clock vectors) → r ≢ m.id → IsPlace place → u < units
     → m.vector_at place u r ≡ vectors place u r
 other_entry units m vectors place u r same other there small = same place u r there small ∙ (rw (ne_eqb r m.id other) refl)
 

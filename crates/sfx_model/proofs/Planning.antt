@@ -10,7 +10,7 @@ use Rattle.sfx_ids.specs.ItemId.{IsItemId}
 use Rattle.sfx_item.specs.declared.cell.Cell.{Cell}
 use Rattle.sfx_item.specs.Decided.{is_clash}
 use Rattle.sfx_item.specs.Row.{first_value}
-use Rattle.sfx_knowledge.proofs.Compares.{Tested, yes_it, not_it, tested}
+use Rattle.sfx_segments.proofs.Tested.{Tested, yes_it, not_it, tested}
 use Rattle.sfx_model.specs.declared.clash_rule.ClashRule.{ClashRule}
 use Rattle.sfx_model.specs.declared.clash_rule.ClashRule.TheVariants.{Source, Destination, RenameSource, RenameDestination, Skip}
 use Rattle.sfx_model.specs.declared.mark.Mark.{Mark}

@@ -7,11 +7,8 @@ use Rattle.sfx_model.specs.Members.{MemberItem, ItemState, AreRising, IsIdBelow,
 use Rattle.sfx_model.specs.States.{with_state}
 use Rattle.sfx_model.specs.Putting.{put_for, put_item, drop_item, with_state_of}
 use Rattle.sfx_model.proofs.Steps.{same_item_is}
-use Rattle.sfx_model.proofs.Rising.{state_below, state_behind}
+use Rattle.sfx_model.proofs.Rising.{state_below, state_behind, item_with}
 use Rattle.sfx_model.proofs.Placing.{with_has, with_rising, with_found, with_others, state_rising, state_found, state_others}
-
-abbrev item_with : ItemId → ItemState → MemberItem
-item_with i state = record { id = i; state = state }
 
 -- An item that is put is found, and the others stay.
 pub put_found : (x : MemberItem) (xs : List MemberItem) → state_of (put_item x xs) x.id ≡ Some x.state

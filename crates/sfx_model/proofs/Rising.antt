@@ -83,7 +83,7 @@ tails_alike x xs ys rising others alike i = by_test (same_item x.id i) refl
         (state_below xs x.id rising.0 ∙ sym (state_below ys x.id others.0))
     by_test false e = let h = alike i in rw e at h
 
-abbrev item_with : ItemId → ItemState → MemberItem
+abbrev pub item_with : ItemId → ItemState → MemberItem
 item_with id state = record { id = id; state = state }
 
 pub items_are : (x y : MemberItem) → x.id ≡ y.id → x.state ≡ y.state → x ≡ y

@@ -12,6 +12,7 @@ use Rattle.sfx_model.specs.Events.{same_item, known_with, new_site, AllLegal}
 use Rattle.sfx_vector.specs.Clocks.{tick_of}
 use Rattle.sfx_knowledge.specs.Row.{row_at}
 use Rattle.sfx_knowledge.specs.Knowledge.{no_row}
+use Rattle.sfx_knowledge.proofs.Forgets.{none_forgotten}
 use Rattle.sfx_model.specs.Members.{Live, NamedMember, shown, state_of, vector_at, IsLatestCell, ItemRepresents, RepresentsWorld}
 use Rattle.sfx_model.specs.Examples.{run_item, run_version, run_record, run_records, run_events, run_world, run_community, name_and_value, value_alone}
 use Rattle.sfx_model.proofs.Steps.{same_item_is}
@@ -223,10 +224,6 @@ run_items i = by_test (same_item run_item i) refl
 
 -- nothing is forgotten, and the knowledge stays within the clock
 
-pub none_forgotten : (b : Bool) (r : ℕ) → tick_of (if b then [] else []) r ≡ 0
-none_forgotten true r = refl
-none_forgotten false r = refl
-
 pub run_bounded : (place : Cut) (u r : ℕ) → vector_at run_member.member place u r ≤ (if nat_eq 10 r then 2 else 0)
 run_bounded place u r = elim (cases_eq r 10) [
   | inl e ↦ rw (e) (le_refl 2)
@@ -248,10 +245,10 @@ run_represents = record {
       represents = record {
         exact = λ i u v made. (λ contained. run_knows i u v made, λ known. run_contains i u v made);
         items = run_items;
-        header = record { id = refl; clock = refl; forgotten = λ place r there. none_forgotten (cut_le Start place) r };
+        header = record { id = refl; clock = refl; forgotten = λ place r there. none_forgotten place r };
         bounded = record {
           vectors = λ place u r there small. run_bounded place u r;
-          forgotten = λ place r there. rw (none_forgotten (cut_le Start place) r) zero-le;
+          forgotten = λ place r there. rw (none_forgotten place r) zero-le;
         };
       };
       rising = (λ y has. absurd has, tt);

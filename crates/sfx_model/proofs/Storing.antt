@@ -5,7 +5,7 @@ use Rattle.sfx_ids.specs.declared.cut.Cut.{Cut}
 use Rattle.sfx_ids.specs.declared.item_id.ItemId.{ItemId}
 use Rattle.sfx_ids.specs.Cut.{cut_lt, cut_le}
 use Rattle.sfx_knowledge.specs.Knowledge.{Known, HasTicks, IsKnowledge, tick_at, learned, laid_over}
-use Rattle.sfx_knowledge.specs.Forms.{ArePlaces, is_parted}
+use Rattle.sfx_knowledge.specs.Forms.{is_parted}
 use Rattle.sfx_knowledge.proofs.Compares.{or-left, or-right}
 use Rattle.sfx_knowledge.proofs.Known.{one_knowledge}
 use Rattle.sfx_knowledge.proofs.Making.{IsKnowledge-with_own, ticks-with_own}
@@ -23,10 +23,6 @@ unparted_append (x ∷ xs) ys p q none =
     let rest = unparted_append xs ys p q (or-right (cut_lt p x && cut_le x q) (is_parted (xs ++ ys) p q) none) in
     let first : (cut_lt p x && cut_le x q) ≡ false = or-left (cut_lt p x && cut_le x q) (is_parted (xs ++ ys) p q) none in
     (rw (first, rest.0) refl, rest.1)
-
-pub places_append : (xs ys : List Cut) → ArePlaces xs → ArePlaces ys → ArePlaces (xs ++ ys)
-places_append [] ys first second = second
-places_append (x ∷ xs) ys first second = (first.0, places_append xs ys first.1 second)
 
 -- What was learned is knowledge with these ticks.
 pub learned_form :

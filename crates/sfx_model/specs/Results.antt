@@ -1,4 +1,4 @@
-use Rattle.std.specs.Prelude.{◌≡◌, ℕ, ◌<◌, ◌≤◌, max, Bool, true, false, not, ◌&&◌, if◌then◌else◌, nat_eq, ◌⊎◌, ◌↔◌, List, length, Option, Some, None, slice_get}
+use Rattle.std.specs.Prelude.{◌≡◌, ℕ, ◌<◌, ◌≤◌, max, Bool, true, false, not, ◌&&◌, if◌then◌else◌, ◌⊎◌, ◌↔◌, List, length, Option, Some, None, slice_get}
 use Rattle.sfx_ids.specs.declared.cut.Cut.{Cut}
 use Rattle.sfx_ids.specs.declared.cut.Cut.TheVariants.{Start, At, After, End}
 use Rattle.sfx_ids.specs.declared.item_id.ItemId.{ItemId}
@@ -7,6 +7,7 @@ use Rattle.sfx_ids.specs.Cut.{is_between}
 use Rattle.sfx_segments.specs.Segments.{IsPlace}
 use Rattle.sfx_knowledge.specs.Skips.{is_skipped}
 use Rattle.sfx_item.specs.declared.cell.Cell.{Cell}
+use Rattle.sfx_knowledge.specs.Knowledge.{laid_over}
 use Rattle.sfx_model.specs.Sets.{Has}
 use Rattle.sfx_model.specs.World.{Content, Written, Deleted, Snapshot, World, Made, IsContained}
 use Rattle.sfx_model.specs.Events.{UnitMark, Stays, Taken, Stamped, Left, Gone, same_item, is_in, forgotten_with, forgotten_joined, clock_after, AllMarked, AllStamped}
@@ -53,10 +54,6 @@ joined_by Taken here made_with = max here made_with
 joined_by (Stamped c) here made_with = max here made_with
 joined_by Left here made_with = here
 joined_by Gone here made_with = max here made_with
-
--- Knowledge with the own clock laid over it.
-abbrev pub with_own : ℕ → ℕ → (Cut → ℕ → ℕ → ℕ) → Cut → ℕ → ℕ → ℕ
-with_own own clock vectors place u r = if nat_eq r own then clock else vectors place u r
 
 -- Knowledge joined with the made-with knowledge at the entry's item, by the mark of each unit.
 abbrev pub joined_at : ItemId → (ℕ → UnitMark) → (Cut → ℕ → ℕ → ℕ) → (Cut → ℕ → ℕ → ℕ) → Cut → ℕ → ℕ → ℕ
@@ -128,7 +125,7 @@ pub data StateResult (units : ℕ) (v : Version) (marks : ℕ → UnitMark) (bef
 pub record EntryResult (units : ℕ) (i : ItemId) (v : Version) (marks : ℕ → UnitMark) (seen : Option ItemState) (made_with : Cut → ℕ → ℕ → ℕ) (m n : Shown) : Type 0 where
   pub id : n.id ≡ m.id
   pub clock : n.clock ≡ clock_after marks units v.tick m.clock
-  pub vectors : SameVectors units n.vector_at (with_own n.id n.clock (joined_at i marks m.vector_at made_with))
+  pub vectors : SameVectors units n.vector_at (laid_over n.id n.clock (joined_at i marks m.vector_at made_with))
   pub forgotten : SameForgotten n.forgotten m.forgotten
   pub others : KeepsOthers i m n
   pub item : StateResult units v marks (state_of m.items i) seen (state_of n.items i)
@@ -142,7 +139,7 @@ mark_of (Some c) = Stamped c
 pub record EditResult (units : ℕ) (i : ItemId) (v : Version) (contents : ℕ → Option Content) (m n : Shown) : Type 0 where
   pub id : n.id ≡ m.id
   pub clock : n.clock ≡ v.tick
-  pub vectors : SameVectors units n.vector_at (with_own n.id n.clock m.vector_at)
+  pub vectors : SameVectors units n.vector_at (laid_over n.id n.clock m.vector_at)
   pub forgotten : SameForgotten n.forgotten m.forgotten
   pub others : KeepsOthers i m n
   pub item : StateResult units v (λ u. mark_of (contents u)) (state_of m.items i) None (state_of n.items i)
@@ -168,6 +165,6 @@ pub record ForgetResult (units : ℕ) (seen : Cut → ℕ → ℕ) (lo hi : Cut)
 pub record LearnResult (units : ℕ) (lo hi : Cut) (left : ItemId → ℕ → Bool) (made_with : Cut → ℕ → ℕ → ℕ) (m n : Shown) : Type 0 where
   pub id : n.id ≡ m.id
   pub clock : n.clock ≡ m.clock
-  pub vectors : SameVectors units n.vector_at (with_own n.id n.clock (joined_in lo hi left m.vector_at made_with))
+  pub vectors : SameVectors units n.vector_at (laid_over n.id n.clock (joined_in lo hi left m.vector_at made_with))
   pub forgotten : SameForgotten n.forgotten m.forgotten
   pub items : KeepsItems m n

@@ -9,7 +9,7 @@ ghost use Rattle.sfx_knowledge.specs.Skips.{is_skipped};
 ghost use Rattle.sfx_model.specs.Events.{UnitMark};
 ghost use Rattle.sfx_model.specs.Knowing.{joined_forgets, stored_known};
 ghost use Rattle.sfx_model.specs.Members.{Member, shown, vector_at};
-ghost use Rattle.sfx_model.specs.Results.{ForgetResult, LearnResult, SameVectors, SkipsLeft, joined_at, with_own};
+ghost use Rattle.sfx_model.specs.Results.{ForgetResult, LearnResult, SameVectors, SkipsLeft, joined_at};
 
 /// What the lists of a member that learned owe, in the words of what an event owes of the member, as a
 /// law. It does nothing when called.
@@ -34,7 +34,7 @@ pub fn results_follow()
     ensures item { (units : ℕ) (m n : Member) (i : ItemId) (marks : ℕ → UnitMark) (skipped : List (ItemId × ℕ)) (there : Ticks) →
         n.id ≡ m.id → SkipsLeft units i marks skipped →
         HasTicks units n.knowledge (laid_over m.id 0 (learned (At i) (After i) skipped (tick_at m.knowledge) there)) →
-        SameVectors units (vector_at n) (with_own n.id n.clock (joined_at i marks (vector_at m) there)) }
+        SameVectors units (vector_at n) (laid_over n.id n.clock (joined_at i marks (vector_at m) there)) }
     ensures range { (units : ℕ) (m n : Member) (lo hi : Cut) (skipped : List (ItemId × ℕ)) (there : Ticks) →
         n.id ≡ m.id → n.clock ≡ m.clock → n.forgotten ≡ m.forgotten → n.items ≡ m.items →
         HasTicks units n.knowledge (laid_over m.id 0 (learned lo hi skipped (tick_at m.knowledge) there)) →

@@ -18,11 +18,11 @@ use Rattle.sfx_item.specs.Clash.{Clash}
 use Rattle.sfx_item.specs.Decided.{is_clash, name_fault}
 use Rattle.sfx_item.specs.Name.{IsName}
 use Rattle.sfx_item.specs.Row.{IsRow, first_value}
-use Rattle.sfx_item.proofs.Decisions.{name_decided, clash_decided}
+use Rattle.sfx_item.proofs.Decisions.{name_decided, clash_decided, other_way}
 use Rattle.sfx_knowledge.specs.Row.{row_at}
 use Rattle.sfx_knowledge.specs.Forgotten.{Forgets}
 use Rattle.sfx_knowledge.specs.Forms.{with_own}
-use Rattle.sfx_knowledge.proofs.Forgets.{nothing_form}
+use Rattle.sfx_knowledge.proofs.Forgets.{nothing_form, none_forgotten}
 use Rattle.sfx_knowledge.specs.Knowledge.{HasTicks, IsKnowledge, Known, laid_over, no_row, tick_at}
 use Rattle.sfx_model.specs.Consistent.{IsConsistent, IsOwned, AreApart, live_name}
 use Rattle.sfx_model.specs.Events.{same_item}
@@ -102,11 +102,6 @@ none_clashes name except (x ∷ xs) j y b none at other named clashes =
         let bad : true ≡ false = sym (in_the_way e state) ∙ is in
         cc
     by_way rest false is free false e here = rest free here
-
-turned : (a b : List ℕ) → Clash a b → Clash b a
-turned a b (inl same) = inl (sym same)
-turned a b (inr (inl below)) = inr (inr below)
-turned a b (inr (inr above)) = inr (inl above)
 
 -- A replica whose clock rose knows all that it knew, and its next version.
 pub knows_more :
@@ -245,7 +240,7 @@ with_apart m x name apart new free is i j s t a b differ at_i at_j named_i named
         (subst (λ (c : List ℕ). Clash c b) (sym (own i s a e at_i named_i)) clashes)
     by_ids false e true f =
         none_clashes name None m.items i s a free (old i s e at_i) refl named_i
-        (subst (λ (c : List ℕ). Clash c a) (sym (own j t b f at_j named_j)) (turned a b clashes))
+        (subst (λ (c : List ℕ). Clash c a) (sym (own j t b f at_j named_j)) (other_way a b clashes))
     by_ids false e false f = apart i j s t a b differ (old i s e at_i) (old j t f at_j) named_i named_j clashes
 
 -- A creation keeps the state consistent.
@@ -382,7 +377,7 @@ state_apart m i old state apart was named p q s t a b differ at_p at_q named_p n
     by_ids : (e : Bool) → same_item i p ≡ e → (f : Bool) → same_item i q ≡ f → ⊥
     by_ids true e true f = differ (sym (same_item_is i p e) ∙ same_item_is i q f)
     by_ids true e false f = against q t a b (own p s a e at_p named_p) f (before q t f at_q) named_q clashes
-    by_ids false e true f = against p s b a (own q t b f at_q named_q) e (before p s e at_p) named_p (turned a b clashes)
+    by_ids false e true f = against p s b a (own q t b f at_q named_q) e (before p s e at_p) named_p (other_way a b clashes)
     by_ids false e false f = apart p q s t a b differ (before p s e at_p) (before q t f at_q) named_p named_q clashes
 
 -- What a write to a unit that is not refused has: the unit is one, the clock can rise, and a value for unit 0
@@ -467,10 +462,6 @@ nowhere_known : (b : Bool) (u r : ℕ) → tick_of (row_at (if b then no_row els
 nowhere_known true u r = refl
 nowhere_known false u r = refl
 
-nowhere_forgotten : (b : Bool) (r : ℕ) → tick_of (if b then [] else []) r ≡ 0
-nowhere_forgotten true r = refl
-nowhere_forgotten false r = refl
-
 -- A new replica is consistent.
 pub new_consistent : (units id : ℕ) → 1 ≤ units → id < 2 ^ 128 → IsConsistent units (new_member id)
 new_consistent units id some fits = record {
@@ -480,7 +471,7 @@ new_consistent units id some fits = record {
   knowledge = record { segments = (refl, tt); rows = (record { base = tt; others = tt }, tt) };
   unstored = λ place u is small. nowhere_known (cut_le Start place) u id;
   forgets = nothing_form;
-  forgotten = λ place is. let none = nowhere_forgotten (cut_le Start place) id in omega (arith, none);
+  forgotten = λ place is. let none = none_forgotten place id in omega (arith, none);
   rising = tt;
   items = λ i state at. let bad : None ≡ Some state = at in absurd (cc);
   names = λ i j x y a b differ at_i at_j named_i named_j clashes. let bad : None ≡ Some x = at_i in cc;

@@ -18,6 +18,7 @@ use Rattle.sfx_replica.specs.Items.{place_for}
 use Rattle.sfx_replica.proofs.Gathering.{opened}
 use Rattle.sfx_model.specs.States.{is_id_below, with_item, with_state}
 use Rattle.sfx_model.proofs.Steps.{same_item_is}
+use Rattle.sfx_model.proofs.Rising.{item_with}
 
 abbrev pub has_id : {U : ℕ} → ItemId → Item U → Bool
 has_id i x = same_item x.id i
@@ -29,9 +30,6 @@ pub record IsPlace {U : ℕ} (xs : List (Item U)) (i : ItemId) (j : ℕ) : Type 
   pub id : (d : Item U) → (get_or xs j d).id ≡ i
   pub put : (d y : Item U) → y.id ≡ (get_or xs j d).id → items_view (set xs j y) ≡ with_state i (state_view y.state) (items_view xs)
   pub removed : items_view (remove xs j) ≡ drop_item i (items_view xs)
-
-abbrev placed_item : ItemId → ItemState → MemberItem
-placed_item id state = record { id = id; state = state }
 
 pub place_found : {U : ℕ} (xs : List (Item U)) (i : ItemId) (n k : ℕ) → position_from (has_id i) n xs ≡ Some k
     → (j : ℕ) × (k ≡ n + j) × IsPlace xs i j
@@ -48,7 +46,7 @@ place_found {U} (x ∷ xs) i n k e = by_test (place_found xs i (n + 1) k) (same_
           inside = omega arith;
           state = λ d. rw test refl;
           id = λ d. same_item_is x.id i test;
-          put = λ d y same. rw test (let made : placed_item y.id (state_view y.state) ≡ placed_item x.id (state_view y.state) = rw same refl in ap (λ (z : MemberItem). z ∷ items_view xs) made);
+          put = λ d y same. rw test (let made : item_with y.id (state_view y.state) ≡ item_with x.id (state_view y.state) = rw same refl in ap (λ (z : MemberItem). z ∷ items_view xs) made);
           removed = rw test refl;
         },
       )

@@ -7,15 +7,11 @@ use Rattle.sfx_ids.specs.Text.{cut_text, item_text, replica_text, version_text}
 use Rattle.sfx_item.specs.declared.cell.Cell.{Cell}
 use Rattle.sfx_vector.specs.Clocks.{Clocks}
 use Rattle.sfx_knowledge.specs.Row.{UnitClocks}
-use Rattle.sfx_knowledge.specs.Knowledge.{Known}
 use Rattle.sfx_knowledge.specs.Forgotten.{fvec}
-use Rattle.sfx_knowledge.specs.Forms.{same_clocks, with_own}
+use Rattle.sfx_knowledge.specs.Forms.{same_clocks}
+use Rattle.sfx_model.specs.Knowing.{laid_known}
 use Rattle.sfx_model.specs.Members.{ItemState, Live, Dead, Member, MemberItem, NamedMember}
 use Rattle.sfx_script.specs.Printed.{value_text, vector_text}
-
--- What the member knows, its own versions included.
-abbrev pub all_known : ℕ → Member → Known
-all_known units m = with_own units m.id m.clock m.knowledge
 
 -- The vector of a unit that differs from unit 0.
 abbrev pub other_text : ℕ × Clocks → List ℕ
@@ -59,5 +55,5 @@ forgotten_text m = codes "forgotten " ++ vector_text (fvec m.member.forgotten St
 -- All of a replica: its name, id and clock, what it has forgotten, what it knows, and its items.
 abbrev pub listing : ℕ → NamedMember → List ℕ
 listing units m =
-    header_text m ++ forgotten_text m ++ flat_map segment_text (all_known units m.member)
+    header_text m ++ forgotten_text m ++ flat_map segment_text (laid_known units m.member)
     ++ flat_map item_line m.member.items ++ codes "end\n"

@@ -5,7 +5,8 @@ ghost use Rattle.sfx_ids.specs.declared.cut.Cut.TheVariants.{Start};
 ghost use Rattle.sfx_knowledge.specs.Forgotten.{fvec};
 ghost use Rattle.sfx_model.specs.Items.{item_view, items_view, state_view};
 ghost use Rattle.sfx_script.specs.Printed.{vector_text};
-ghost use Rattle.sfx_reply.specs.Listing.{all_known, cell_text, item_line, listing, named_text, other_text, segment_text, state_text, unit_text};
+ghost use Rattle.sfx_model.specs.Knowing.{laid_known};
+ghost use Rattle.sfx_reply.specs.Listing.{cell_text, item_line, listing, named_text, other_text, segment_text, state_text, unit_text};
 
 use crate::reply::Listing;
 use crate::text::{append, newline, write_number};
@@ -62,7 +63,7 @@ fn write_known<const U: usize>(
     out: &mut Vec<u8>,
     replica: &Replica<U>,
 ) -> Result<(), Memory>
-    ensures { OnOk result (out.new.items ≡ out.old.items ++ flat_map segment_text (all_known U replica.now)) }
+    ensures { OnOk result (out.new.items ≡ out.old.items ++ flat_map segment_text (laid_known U replica.now)) }
 {
     // Each replica has at least one unit, as its id says.
     let _id = replica.id();

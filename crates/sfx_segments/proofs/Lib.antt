@@ -1,3 +1,4 @@
+pub mod Tested
 pub mod Places
 pub mod Forms
 pub mod Walks

@@ -8,6 +8,7 @@ use Rattle.sfx_ids.proofs.CutOrder.{lt-not_le, not_le, not_lt, le_trans, lt_tran
 use Rattle.sfx_segments.specs.Segments.{segment_at}
 use Rattle.sfx_segments.specs.Merge.{start_of, earlier, passed}
 use Rattle.sfx_segments.proofs.Places.{segment_at-passed, segment_at-ahead}
+use Rattle.sfx_segments.proofs.Tested.{yes_it, not_it, tested}
 
 -- ---- one list
 
@@ -48,15 +49,6 @@ pub pass_ends : {A : Type 0} (value : A) (ahead : List (Cut × A)) (place : Cut)
     length ahead < 1 → let r : A × List (Cut × A) = (value, ahead) in r ≡ passed value ahead place
 pass_ends value [] place over = refl
 pass_ends value (p ∷ ps) place over = absurd (omega arith)
-
--- the test, with what it says
-data Tested (b : Bool) : Type 0 where
-  yes_it : b ≡ true → Tested b
-  not_it : b ≡ false → Tested b
-
-tested : (b : Bool) → Tested b
-tested true = yes_it refl
-tested false = not_it refl
 
 -- from the place on, what is left gives what the list gives
 pub segment_at-passed_list : {A : Type 0} (value : A) (ps : List (Cut × A)) (place q : Cut) → cut_le place q ≡ true → segment_at (passed value ps place).0 (passed value ps place).1 q ≡ segment_at value ps q

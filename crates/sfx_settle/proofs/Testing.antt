@@ -2,7 +2,8 @@
 use Rattle.std.proofs.Common.{◌≡◌, ◌↔◌, ℕ, zero, suc, ◌<◌, Bool, true, false, IsTrue, ◌||◌, nat_eq, arith, refl, sym, ap, subst, ◌∙◌, List, [], ◌∷◌, ◌++◌, ◌+◌, ◌≤◌, map, length, Option, Some, IfSome}
 use Rattle.std.specs.List.{range_with_len}
 use Rattle.std.proofs.lemmas.List.FromFn.{length-map-range_with_len, map-range_with_len_more}
-use Rattle.sfx_knowledge.proofs.Compares.{tested, yes_it, not_it, eq-is}
+use Rattle.std.proofs.lemmas.Bool.{eqb-true}
+use Rattle.sfx_segments.proofs.Tested.{yes_it, not_it, tested}
 use Rattle.sfx_model.specs.Events.{some_unit}
 
 -- two tests that say the same are the same
@@ -16,7 +17,7 @@ same_test false false P here there = refl
 pub some_found : (test : ℕ → Bool) (u n : ℕ) → test u ≡ true → u < n → some_unit test n ≡ true
 some_found test u zero passes low = absurd (omega (arith, low))
 some_found test u (suc n) passes low = elim (tested (nat_eq u n)) [
-  | yes_it same ↦ ap (λ (b : Bool). b || some_unit test n) (subst (λ (x : ℕ). test x ≡ true) (eq-is u n same) passes)
+  | yes_it same ↦ ap (λ (b : Bool). b || some_unit test n) (subst (λ (x : ℕ). test x ≡ true) (eqb-true u n same) passes)
   | not_it other ↦ or_true (test n) (some_unit test n) (some_found test u n passes (below u n low other))
 ] where
   or_true : (a b : Bool) → b ≡ true → (a || b) ≡ true

@@ -1,53 +1,28 @@
 -- The entries of a clock vector: what an edit at the place of a replica does to each tick.
 use Rattle.std.proofs.Math.Seq.{drop-cons}
-use Rattle.std.proofs.Common.{drop, add-one, get_or, zero, ◌==◌, ◌&&◌, ◌≡◌, ◌≢◌, ◌⊎◌, ℕ, suc, ◌+◌, ◌<◌, ◌≤◌, ◌^◌, Bool, true, false, if◌then◌else◌, nat_eq, nat_lt, [], ◌∷◌, length, set, refl, sym, ap, subst, inl, inr, arith, ◌∙◌, max}
+use Rattle.std.proofs.Common.{drop, add-one, get_or, zero, ◌==◌, ◌&&◌, ◌≡◌, ◌≢◌, ◌⊎◌, ℕ, suc, ◌+◌, ◌<◌, ◌≤◌, ◌^◌, if◌then◌else◌, nat_eq, [], ◌∷◌, length, set, refl, sym, ap, subst, inl, inr, arith, ◌∙◌, max}
 use Rattle.std.specs.List.{insert, remove}
 use Rattle.std.proofs.lemmas.Bool.Decides.{nat_tests}
 use Rattle.std.specs.Bool.{Decides}
+use Rattle.std.proofs.lemmas.Bool.{eq-eqb, ne_eqb, lt-ltb, le-ltb, cases_lt, cases_eq}
 use Rattle.sfx_ids.specs.Tick.{IsTick}
 use Rattle.sfx_vector.specs.Clocks.{Clocks, AreFrom, AreClocks, ChangesOnly, tick_of}
 use Rattle.sfx_vector.specs.Places.{place_of}
 
 -- ---- one step
 
-pub lt_or_le : (a b : ℕ) → (a < b) ⊎ (b ≤ a)
-lt_or_le a b = by_test (nat_lt a b) refl
-  where
-    by_test : (t : Bool) → nat_lt a b ≡ t → (a < b) ⊎ (b ≤ a)
-    by_test true is = inl (grind (arith, nat_tests))
-    by_test false is = inr (grind (arith, nat_tests))
-
-pub same_or_not : (a b : ℕ) → (a ≡ b) ⊎ (a ≢ b)
-same_or_not a b = by_test (nat_eq a b) refl
-  where
-    by_test : (t : Bool) → nat_eq a b ≡ t → (a ≡ b) ⊎ (a ≢ b)
-    by_test true is = inl (grind (arith, nat_tests))
-    by_test false is = inr (λ same. grind (arith, nat_tests))
-
-eq-true : (a b : ℕ) → a ≡ b → nat_eq a b ≡ true
-eq-true a b same = grind (arith, nat_tests)
-
-eq-false : (a b : ℕ) → a ≢ b → nat_eq a b ≡ false
-eq-false a b other = grind (arith, nat_tests)
-
-lt-true : (a b : ℕ) → a < b → nat_lt a b ≡ true
-lt-true a b less = grind (arith, nat_tests)
-
-lt-false : (a b : ℕ) → b ≤ a → nat_lt a b ≡ false
-lt-false a b le = grind (arith, nat_tests)
-
 -- the tick of the first entry's replica, and of another
 pub tick-here : (c : ℕ × ℕ) (cs : Clocks) (r : ℕ) → c.0 ≡ r → tick_of (c ∷ cs) r ≡ c.1
-tick-here c cs r same = ap (λ t. if t then c.1 else tick_of cs r) (eq-true c.0 r same)
+tick-here c cs r same = ap (λ t. if t then c.1 else tick_of cs r) (eq-eqb c.0 r same)
 
 pub tick-past : (c : ℕ × ℕ) (cs : Clocks) (r : ℕ) → c.0 ≢ r → tick_of (c ∷ cs) r ≡ tick_of cs r
-tick-past c cs r other = ap (λ t. if t then c.1 else tick_of cs r) (eq-false c.0 r other)
+tick-past c cs r other = ap (λ t. if t then c.1 else tick_of cs r) (ne_eqb c.0 r other)
 
 pub place-past : (c : ℕ × ℕ) (cs : Clocks) (r : ℕ) → c.0 < r → place_of (c ∷ cs) r ≡ suc (place_of cs r)
-place-past c cs r less = ap (λ t. if t then suc (place_of cs r) else 0) (lt-true c.0 r less)
+place-past c cs r less = ap (λ t. if t then suc (place_of cs r) else 0) (lt-ltb c.0 r less)
 
 pub place-here : (c : ℕ × ℕ) (cs : Clocks) (r : ℕ) → r ≤ c.0 → place_of (c ∷ cs) r ≡ 0
-place-here c cs r le = ap (λ t. if t then suc (place_of cs r) else 0) (lt-false c.0 r le)
+place-here c cs r le = ap (λ t. if t then suc (place_of cs r) else 0) (le-ltb c.0 r le)
 
 -- ---- what ascends
 
@@ -63,16 +38,16 @@ absent low r (c ∷ cs) below from =
 
 -- ---- two vectors with the same ticks
 
-abbrev pair : ℕ → ℕ → ℕ × ℕ
+abbrev pub pair : ℕ → ℕ → ℕ × ℕ
 pair a b = (a, b)
 
-same_pair : (c d : ℕ × ℕ) → c.0 ≡ d.0 → c.1 ≡ d.1 → c ≡ d
+pub same_pair : (c d : ℕ × ℕ) → c.0 ≡ d.0 → c.1 ≡ d.1 → c ≡ d
 same_pair c d first second =
     let same : pair c.0 c.1 ≡ pair d.0 d.1 = rw (first, second) refl in
     same
 
 not_below : (c : ℕ × ℕ) (cs : Clocks) (d : ℕ × ℕ) (ds : Clocks) (low : ℕ) → AreFrom low (c ∷ cs) → AreFrom low (d ∷ ds) → tick_of (c ∷ cs) c.0 ≡ tick_of (d ∷ ds) c.0 → d.0 ≤ c.0
-not_below c cs d ds low from from' same = elim (lt_or_le c.0 d.0) [
+not_below c cs d ds low from from' same = elim (cases_lt c.0 d.0) [
   | inr le ↦ le
   | inl less ↦
       let some : tick_of (c ∷ cs) c.0 ≡ c.1 = tick-here c cs c.0 refl in
@@ -89,7 +64,7 @@ same_ticks low (c ∷ cs) [] from from' same =
 same_ticks low (c ∷ cs) (d ∷ ds) from from' same =
     let first : c.0 ≡ d.0 = omega (arith, not_below c cs d ds low from from' (same c.0), not_below d ds c cs low from' from (sym (same d.0))) in
     let second : c.1 ≡ d.1 = sym (tick-here c cs c.0 refl) ∙ same c.0 ∙ tick-here d ds c.0 (sym first) in
-    let rest : (r : ℕ) → tick_of cs r ≡ tick_of ds r = λ r. elim (same_or_not c.0 r) [
+    let rest : (r : ℕ) → tick_of cs r ≡ tick_of ds r = λ r. elim (cases_eq c.0 r) [
       | inl is ↦ absent (c.0 + 1) r cs (omega arith) from.3 ∙ sym (absent (d.0 + 1) r ds (omega arith) from'.3)
       | inr other ↦ sym (tick-past c cs r other) ∙ same r ∙ tick-past d ds r (λ is. other (first ∙ is))
     ] in
@@ -100,7 +75,7 @@ same_ticks low (c ∷ cs) (d ∷ ds) from from' same =
 
 pub place-within : (cs : Clocks) (r : ℕ) → place_of cs r ≤ length cs
 place-within [] r = omega arith
-place-within (c ∷ cs) r = elim (lt_or_le c.0 r) [
+place-within (c ∷ cs) r = elim (cases_lt c.0 r) [
   | inl less ↦ rw place-past (omega (arith, place-within cs r))
   | inr above ↦ rw place-here (omega arith)
 ]
@@ -108,7 +83,7 @@ place-within (c ∷ cs) r = elim (lt_or_le c.0 r) [
 -- a replica with a tick stands at its place
 pub place-taken : (cs : Clocks) (r : ℕ) → 0 < tick_of cs r → place_of cs r < length cs
 place-taken [] r some = absurd (omega arith)
-place-taken (c ∷ cs) r some = elim (lt_or_le c.0 r) [
+place-taken (c ∷ cs) r some = elim (cases_lt c.0 r) [
   | inl less ↦ rw place-past
       (let rest = place-taken cs r (omega (arith, tick-past c cs r (λ same. omega arith))) in omega arith)
   | inr above ↦ rw place-here (omega arith)
@@ -118,7 +93,7 @@ place-taken (c ∷ cs) r some = elim (lt_or_le c.0 r) [
 
 pub AreFrom-insert : (low r t : ℕ) (cs : Clocks) → low ≤ r → r < 2 ^ 128 → IsTick t → AreFrom low cs → tick_of cs r ≡ 0 → AreFrom low (insert cs (place_of cs r) (r, t))
 AreFrom-insert low r t [] le fits valid from none = (le, fits, valid, tt)
-AreFrom-insert low r t (c ∷ cs) le fits valid from none = elim (lt_or_le c.0 r) [
+AreFrom-insert low r t (c ∷ cs) le fits valid from none = elim (cases_lt c.0 r) [
   | inl less ↦ rw place-past
       (from.0, from.1, from.2, AreFrom-insert (c.0 + 1) r t cs (omega arith) fits valid from.3 (sym (tick-past c cs r (λ same. omega arith)) ∙ none))
   | inr above ↦ rw place-here
@@ -128,12 +103,12 @@ AreFrom-insert low r t (c ∷ cs) le fits valid from none = elim (lt_or_le c.0 r
 
 pub tick-insert : (r t : ℕ) (cs : Clocks) (q : ℕ) → tick_of (insert cs (place_of cs r) (r, t)) q ≡ (if nat_eq r q then t else tick_of cs q)
 tick-insert r t [] q = refl
-tick-insert r t (c ∷ cs) q = elim (lt_or_le c.0 r) [
-  | inl less ↦ rw place-past (elim (same_or_not c.0 q) [
+tick-insert r t (c ∷ cs) q = elim (cases_lt c.0 r) [
+  | inl less ↦ rw place-past (elim (cases_eq c.0 q) [
     | inl is ↦
         tick-here c (insert cs (place_of cs r) (r, t)) q is
         ∙ sym (tick-here c cs q is)
-        ∙ ap (λ b. if b then t else tick_of (c ∷ cs) q) (sym (eq-false r q (λ same. omega arith)))
+        ∙ ap (λ b. if b then t else tick_of (c ∷ cs) q) (sym (ne_eqb r q (λ same. omega arith)))
     | inr other ↦
         tick-past c (insert cs (place_of cs r) (r, t)) q other
         ∙ tick-insert r t cs q
@@ -146,14 +121,14 @@ tick-insert r t (c ∷ cs) q = elim (lt_or_le c.0 r) [
 
 -- an entry with a tick that is not below the first is the first
 is_first : (low r : ℕ) (c : ℕ × ℕ) (cs : Clocks) → AreFrom low (c ∷ cs) → r ≤ c.0 → 0 < tick_of (c ∷ cs) r → c.0 ≡ r
-is_first low r c cs from above some = elim (lt_or_le r c.0) [
+is_first low r c cs from above some = elim (cases_lt r c.0) [
   | inr le ↦ omega arith
   | inl less ↦ absurd (omega (arith, absent c.0 r (c ∷ cs) less (omega arith, from.1, from.2, from.3)))
 ]
 
 pub AreFrom-set : (low r t : ℕ) (cs : Clocks) → IsTick t → AreFrom low cs → 0 < tick_of cs r → AreFrom low (set cs (place_of cs r) (r, t))
 AreFrom-set low r t [] valid from some = absurd (omega arith)
-AreFrom-set low r t (c ∷ cs) valid from some = elim (lt_or_le c.0 r) [
+AreFrom-set low r t (c ∷ cs) valid from some = elim (cases_lt c.0 r) [
   | inl less ↦ rw place-past
       (from.0, from.1, from.2, AreFrom-set (c.0 + 1) r t cs valid from.3 (omega (arith, tick-past c cs r (λ same. omega arith))))
   | inr above ↦ rw place-here
@@ -163,12 +138,12 @@ AreFrom-set low r t (c ∷ cs) valid from some = elim (lt_or_le c.0 r) [
 
 pub tick-set : (low r t : ℕ) (cs : Clocks) (q : ℕ) → AreFrom low cs → 0 < tick_of cs r → tick_of (set cs (place_of cs r) (r, t)) q ≡ (if nat_eq r q then t else tick_of cs q)
 tick-set low r t [] q from some = absurd (omega arith)
-tick-set low r t (c ∷ cs) q from some = elim (lt_or_le c.0 r) [
-  | inl less ↦ rw place-past (elim (same_or_not c.0 q) [
+tick-set low r t (c ∷ cs) q from some = elim (cases_lt c.0 r) [
+  | inl less ↦ rw place-past (elim (cases_eq c.0 q) [
     | inl is ↦
         tick-here c (set cs (place_of cs r) (r, t)) q is
         ∙ sym (tick-here c cs q is)
-        ∙ ap (λ b. if b then t else tick_of (c ∷ cs) q) (sym (eq-false r q (λ same. omega arith)))
+        ∙ ap (λ b. if b then t else tick_of (c ∷ cs) q) (sym (ne_eqb r q (λ same. omega arith)))
     | inr other ↦
         tick-past c (set cs (place_of cs r) (r, t)) q other
         ∙ tick-set (c.0 + 1) r t cs q from.3 (omega (arith, tick-past c cs r (λ same. omega arith)))
@@ -176,12 +151,12 @@ tick-set low r t (c ∷ cs) q from some = elim (lt_or_le c.0 r) [
   ])
   | inr above ↦ rw place-here
       (let is : c.0 ≡ r = is_first low r c cs from above some in
-      elim (same_or_not r q) [
-        | inl same ↦ tick-here (r, t) cs q same ∙ ap (λ b. if b then t else tick_of (c ∷ cs) q) (sym (eq-true r q same))
+      elim (cases_eq r q) [
+        | inl same ↦ tick-here (r, t) cs q same ∙ ap (λ b. if b then t else tick_of (c ∷ cs) q) (sym (eq-eqb r q same))
         | inr other ↦
             tick-past (r, t) cs q other
             ∙ sym (tick-past c cs q (λ same. other (sym is ∙ same)))
-            ∙ ap (λ b. if b then t else tick_of (c ∷ cs) q) (sym (eq-false r q other))
+            ∙ ap (λ b. if b then t else tick_of (c ∷ cs) q) (sym (ne_eqb r q other))
       ])
 ]
 
@@ -189,7 +164,7 @@ tick-set low r t (c ∷ cs) q from some = elim (lt_or_le c.0 r) [
 
 pub AreFrom-remove : (low r : ℕ) (cs : Clocks) → AreFrom low cs → 0 < tick_of cs r → AreFrom low (remove cs (place_of cs r))
 AreFrom-remove low r [] from some = absurd (omega arith)
-AreFrom-remove low r (c ∷ cs) from some = elim (lt_or_le c.0 r) [
+AreFrom-remove low r (c ∷ cs) from some = elim (cases_lt c.0 r) [
   | inl less ↦ rw place-past
       (from.0, from.1, from.2, AreFrom-remove (c.0 + 1) r cs from.3 (omega (arith, tick-past c cs r (λ same. omega arith))))
   | inr above ↦ rw place-here (AreFrom-lower low (c.0 + 1) cs (omega arith) from.3)
@@ -197,12 +172,12 @@ AreFrom-remove low r (c ∷ cs) from some = elim (lt_or_le c.0 r) [
 
 pub tick-remove : (low r : ℕ) (cs : Clocks) (q : ℕ) → AreFrom low cs → 0 < tick_of cs r → tick_of (remove cs (place_of cs r)) q ≡ (if nat_eq r q then 0 else tick_of cs q)
 tick-remove low r [] q from some = absurd (omega arith)
-tick-remove low r (c ∷ cs) q from some = elim (lt_or_le c.0 r) [
-  | inl less ↦ rw place-past (elim (same_or_not c.0 q) [
+tick-remove low r (c ∷ cs) q from some = elim (cases_lt c.0 r) [
+  | inl less ↦ rw place-past (elim (cases_eq c.0 q) [
     | inl is ↦
         tick-here c (remove cs (place_of cs r)) q is
         ∙ sym (tick-here c cs q is)
-        ∙ ap (λ b. if b then 0 else tick_of (c ∷ cs) q) (sym (eq-false r q (λ same. omega arith)))
+        ∙ ap (λ b. if b then 0 else tick_of (c ∷ cs) q) (sym (ne_eqb r q (λ same. omega arith)))
     | inr other ↦
         tick-past c (remove cs (place_of cs r)) q other
         ∙ tick-remove (c.0 + 1) r cs q from.3 (omega (arith, tick-past c cs r (λ same. omega arith)))
@@ -210,13 +185,13 @@ tick-remove low r (c ∷ cs) q from some = elim (lt_or_le c.0 r) [
   ])
   | inr above ↦ rw place-here
       (let is : c.0 ≡ r = is_first low r c cs from above some in
-      elim (same_or_not r q) [
+      elim (cases_eq r q) [
         | inl same ↦
             absent (c.0 + 1) q cs (omega arith) from.3
-            ∙ ap (λ b. if b then 0 else tick_of (c ∷ cs) q) (sym (eq-true r q same))
+            ∙ ap (λ b. if b then 0 else tick_of (c ∷ cs) q) (sym (eq-eqb r q same))
         | inr other ↦
             sym (tick-past c cs q (λ same. other (sym is ∙ same)))
-            ∙ ap (λ b. if b then 0 else tick_of (c ∷ cs) q) (sym (eq-false r q other))
+            ∙ ap (λ b. if b then 0 else tick_of (c ∷ cs) q) (sym (ne_eqb r q other))
       ])
 ]
 
@@ -225,8 +200,8 @@ tick-remove low r (c ∷ cs) q from some = elim (lt_or_le c.0 r) [
 -- a vector whose ticks are these changes the one tick
 pub changes : (old new : Clocks) (r t : ℕ) → ((q : ℕ) → tick_of new q ≡ (if nat_eq r q then t else tick_of old q)) → ChangesOnly old new r t
 changes old new r t ticks = record {
-  changed = ticks r ∙ ap (λ b. if b then t else tick_of old r) (eq-true r r refl);
-  others = λ q other. ticks q ∙ ap (λ b. if b then t else tick_of old q) (eq-false r q (λ same. other (sym same)));
+  changed = ticks r ∙ ap (λ b. if b then t else tick_of old r) (eq-eqb r r refl);
+  others = λ q other. ticks q ∙ ap (λ b. if b then t else tick_of old q) (ne_eqb r q (λ same. other (sym same)));
 }
 
 -- a tick that is greater than the one before is the greater of both
@@ -271,7 +246,7 @@ tick-item low (suc i) (x ∷ xs) c from within is =
 
 -- the join of what is left goes on with the first entry raised
 pub join_step : (low : ℕ) (old new : Clocks) (c : ℕ × ℕ) (cs : Clocks) → AreFrom low (c ∷ cs) → ChangesOnly old new c.0 (max (tick_of old c.0) c.1) → (r : ℕ) → max (tick_of new r) (tick_of cs r) ≡ max (tick_of old r) (tick_of (c ∷ cs) r)
-join_step low old new c cs from raised r = elim (same_or_not c.0 r) [
+join_step low old new c cs from raised r = elim (cases_eq c.0 r) [
   | inl is ↦
       subst (λ q. max (tick_of new q) (tick_of cs q) ≡ max (tick_of old q) (tick_of (c ∷ cs) q)) is
       (let here : tick_of (c ∷ cs) c.0 ≡ c.1 = tick-here c cs c.0 refl in
@@ -286,7 +261,7 @@ join_step low old new c cs from raised r = elim (same_or_not c.0 r) [
 
 -- where the first entry is not greater, all is within the other where what is left is
 pub within_step : (c : ℕ × ℕ) (cs other : Clocks) → c.1 ≤ tick_of other c.0 → ((r : ℕ) → tick_of cs r ≤ tick_of other r) → (r : ℕ) → tick_of (c ∷ cs) r ≤ tick_of other r
-within_step c cs other first rest r = elim (same_or_not c.0 r) [
+within_step c cs other first rest r = elim (cases_eq c.0 r) [
   | inl is ↦ subst (λ q. tick_of (c ∷ cs) q ≤ tick_of other q) is (omega (arith, tick-here c cs c.0 refl))
   | inr not ↦ omega (arith, tick-past c cs r not, rest r)
 ]
@@ -306,7 +281,7 @@ join_at all old new whole i c from within is changed so_far r =
 pub within_more : (other items : Clocks) (entry : ℕ × ℕ) (i : ℕ) →
     i < length items → entry ≡ get_or items i entry → entry.1 ≤ tick_of other entry.0 →
     ((r : ℕ) → tick_of (drop (i + 1) items) r ≤ tick_of other r) → (r : ℕ) → tick_of (drop i items) r ≤ tick_of other r
-within_more other items entry i inside is below behind r = rw ahead (by_test (same_or_not entry.0 r))
+within_more other items entry i inside is below behind r = rw ahead (by_test (cases_eq entry.0 r))
   where
     ahead : drop i items ≡ entry ∷ drop (i + 1) items
     ahead = drop-cons items i entry inside ∙ rw (add-one, ← is) refl
