@@ -7,7 +7,7 @@ use Rattle.sfx_model.specs.Batch.{Batch}
 use Rattle.sfx_model.specs.Deeds.{batch_deeds}
 use Rattle.sfx_model.specs.Knowing.{ahead_of, laid_known}
 use Rattle.sfx_model.specs.Members.{Member}
-use Rattle.sfx_model.specs.Rules.{skip_rules}
+use Rattle.sfx_model.specs.Rules.{Rules}
 use Rattle.sfx_model.specs.Session.{applied}
 use Rattle.sfx_model.specs.World.{World}
 use Rattle.sfx_apply.specs.Fault.{IsNotAhead, TellsAhead}
@@ -19,19 +19,19 @@ use Rattle.sfx_model.proofs.Most.{none_ahead}
 
 -- A batch that a source brings acts in the world, and the destination is then as the batch has it.
 pub brought_acts :
-    (w : World) (units : ℕ) (source m n : Member) (b : Batch) (budget : Option ℕ)
-    → IsOrderly units m → n ≡ (applied units b skip_rules budget m).member
-    → Brings w units source m b → DeedsActIn w (batch_deeds units b skip_rules budget m) source m.id n
-brought_acts w units source m n b budget orderly is brings =
+    (w : World) (units : ℕ) (source m n : Member) (b : Batch) (rules : Rules) (budget : Option ℕ)
+    → IsOrderly units m → n ≡ (applied units b rules budget m).member
+    → Brings w units source m b → DeedsActIn w (batch_deeds units b rules budget m) source m.id n
+brought_acts w units source m n b rules budget orderly is brings =
     let part = brings.part in
     let law : (k : ℕ) → w.units ≡ k → IsOrderly k source → IsOrderly k m → IsDue k source m brings.size b → KnowsForgotten k b m
-    → DeedsActIn w (batch_deeds k b skip_rules budget m) source m.id (applied k b skip_rules budget m).member =
+    → DeedsActIn w (batch_deeds k b rules budget m) source m.id (applied k b rules budget m).member =
     λ k same. subst
     (λ (u : ℕ). IsOrderly u source → IsOrderly u m → IsDue u source m brings.size b → KnowsForgotten u b m
-    → DeedsActIn w (batch_deeds u b skip_rules budget m) source m.id (applied u b skip_rules budget m).member) same
-    (λ theirs ours due knows. batch_acts w source m b skip_rules brings.size budget part.well_formed part.apart part.source_stands part.stands
+    → DeedsActIn w (batch_deeds u b rules budget m) source m.id (applied u b rules budget m).member) same
+    (λ theirs ours due knows. batch_acts w source m b rules brings.size budget part.well_formed part.apart part.source_stands part.stands
     theirs ours brings.some due knows) in
-    subst (λ (x : Member). DeedsActIn w (batch_deeds units b skip_rules budget m) source m.id x) (sym is)
+    subst (λ (x : Member). DeedsActIn w (batch_deeds units b rules budget m) source m.id x) (sym is)
     (law units part.units_are brings.orderly orderly brings.due brings.knows)
 
 -- The destination of a batch that a source brings is not ahead.
@@ -74,7 +74,7 @@ tells_other ahead clock Memory other = tt
 
 -- The state that comes of the batch, by what is read of the replica before.
 pub read_state :
-    (units : ℕ) (m read after : Member) (b : Batch) (left budget : Option ℕ) → read ≡ m → left ≡ budget
-    → after ≡ (applied units b skip_rules left read).member → after ≡ (applied units b skip_rules budget m).member
-read_state units m read after b left budget same same_budget is =
-    is ∙ (ap (λ (o : Option ℕ). (applied units b skip_rules o read).member) same_budget ∙ ap (λ (x : Member). (applied units b skip_rules budget x).member) same)
+    (units : ℕ) (m read after : Member) (b : Batch) (rules : Rules) (left budget : Option ℕ) → read ≡ m → left ≡ budget
+    → after ≡ (applied units b rules left read).member → after ≡ (applied units b rules budget m).member
+read_state units m read after b rules left budget same same_budget is =
+    is ∙ (ap (λ (o : Option ℕ). (applied units b rules o read).member) same_budget ∙ ap (λ (x : Member). (applied units b rules budget x).member) same)

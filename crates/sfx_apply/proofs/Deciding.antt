@@ -11,19 +11,21 @@ use Rattle.sfx_knowledge.specs.Forms.{with_own}
 use Rattle.sfx_knowledge.specs.Knowledge.{Known, IsKnowledge, tick_at}
 use Rattle.sfx_knowledge.proofs.Known.{one_knowledge}
 use Rattle.sfx_knowledge.proofs.Making.{IsKnowledge-with_own, ticks-with_own}
+use Rattle.sfx_model.specs.declared.clash_rule.ClashRule.{ClashRule}
 use Rattle.sfx_model.specs.declared.clash_rule.ClashRule.TheVariants.{Skip as SkipClash}
+use Rattle.sfx_model.specs.declared.keep.Keep.TheVariants.{Skip as SkipContent}
 use Rattle.sfx_model.specs.declared.mode.Mode.TheVariants.{Normal}
 use Rattle.sfx_model.specs.Batch.{Batch}
 use Rattle.sfx_model.specs.Class.{AllKnown, TakeWhole, WholeConflict, class_of, is_forgotten_within, present_change, unknown_change}
-use Rattle.sfx_model.specs.Clashes.{drafted_name, plan_among, plan_named}
+use Rattle.sfx_model.specs.Clashes.{clash_draft, drafted_name, plan_among, plan_named, plan_of}
 use Rattle.sfx_model.specs.Consistent.{IsConsistent, IsItemState}
 use Rattle.sfx_model.specs.Draft.{Draft, all_left, draft_of}
-use Rattle.sfx_model.specs.Entry.{forgets_after, task_plan}
+use Rattle.sfx_model.specs.Entry.{Change, forgets_after, task_draft, task_plan}
 use Rattle.sfx_model.specs.Knowing.{laid_known}
 use Rattle.sfx_model.specs.Members.{ItemState, Live, Dead, MemberItem, Member, state_of}
 use Rattle.sfx_model.specs.Readings.{clashing_with, is_unseen, knows_version}
 use Rattle.sfx_model.specs.NewName.{is_free}
-use Rattle.sfx_model.specs.Rules.{skip_rules}
+use Rattle.sfx_model.specs.Rules.{Rules}
 use Rattle.sfx_model.proofs.Learned.{laid_other}
 use Rattle.sfx_provider.specs.Commit.{CommitData, committed}
 use Rattle.sfx_provider.proofs.Commits.{commits_consistent, stored}
@@ -91,57 +93,64 @@ class_fits units known made_with forgotten change here = by_test (is_unseen unit
     by_test true = unknown_fits units known made_with forgotten change change.state here refl
     by_test false = tt
 
--- The draft of its plan: that, or where a name clashes, all is left alone.
-abbrev pub settled : ℕ → List MemberItem → ItemId → Option (List ℕ) → Draft → Draft
-settled units items i None draft = draft
-settled units items i (Some name) draft = if is_free items i name then draft else all_left units
+-- The draft as it is settled by its name: that, and where the name clashes what the rule makes of it, but for a
+-- new name.
+abbrev pub settled : ℕ → ClashRule → List MemberItem → ItemId → Option (List ℕ) → Draft → Draft
+settled units rule items i None draft = draft
+settled units rule items i (Some name) draft = if is_free items i name then draft else clash_draft units rule draft
 
 -- It is so by whether the name is free, where there is one.
 settled_free :
-    (units : ℕ) (items : List MemberItem) (i : ItemId) (name : Option (List ℕ)) (draft : Draft)
-    → (if is_free_or_none items i name then draft else all_left units) ≡ settled units items i name draft
-settled_free units items i None draft = refl
-settled_free units items i (Some name) draft = refl
+    (units : ℕ) (rule : ClashRule) (items : List MemberItem) (i : ItemId) (name : Option (List ℕ)) (draft : Draft)
+    → (if is_free_or_none items i name then draft else clash_draft units rule draft) ≡ settled units rule items i name draft
+settled_free units rule items i None draft = refl
+settled_free units rule items i (Some name) draft = refl
 
-plan_settled :
+-- Where a clash of names is left alone, the plan has that draft.
+left_settled :
     (units : ℕ) (items : List MemberItem) (i : ItemId) (name : Option (List ℕ)) (draft : Draft)
-    → (plan_named units SkipClash i items name draft).draft ≡ settled units items i name draft
-plan_settled units items i None draft = refl
-plan_settled units items i (Some name) draft = by_ids (clashing_with name (Some i) items)
+    → (plan_named units SkipClash i items name draft).draft ≡ settled units SkipClash items i name draft
+left_settled units items i None draft = refl
+left_settled units items i (Some name) draft = by_ids (clashing_with name (Some i) items)
   where
     by_ids : (ids : List ItemId) → (plan_among units SkipClash i items name ids draft).draft ≡ (if nat_eq (length ids) 0 then draft else all_left units)
     by_ids [] = refl
     by_ids (j ∷ js) = let some : length (j ∷ js) ≢ 0 = omega arith in rw (ne_eqb (length (j ∷ js)) 0 some) refl
 
+plan_settled :
+    (units : ℕ) (rule : ClashRule) (items : List MemberItem) (i : ItemId) (draft : Draft)
+    → rule ≡ SkipClash → (plan_of units rule i items draft).draft ≡ settled units rule items i (drafted_name draft) draft
+plan_settled units rule items i draft skip =
+    subst (λ (r : ClashRule). (plan_of units r i items draft).draft ≡ settled units r items i (drafted_name draft) draft) (sym skip)
+    (left_settled units items i (drafted_name draft) draft)
+
 pub plan_draft :
-    (units : ℕ) (b : Batch) (change : MemberItem) (w : WorkData) (m : Member)
-    → IsConsistent units m → Waits units w.pending m → b.mode ≡ Normal
-    → (plan_at units b change (destination units w m)).draft
-    ≡ settled units (destination units w m).items change.id (drafted_name (draft_now units b w.pending change (state_of (destination units w m).items change.id)))
-    (draft_now units b w.pending change (state_of (destination units w m).items change.id))
+    (units : ℕ) (b : Batch) (rules : Rules) (change : MemberItem) (w : WorkData) (m : Member)
+    → IsConsistent units m → Waits units w.pending m → rules.clash ≡ SkipClash → b.mode ≡ Normal
+    → (plan_at units b rules change (destination units w m)).draft
+    ≡ settled units rules.clash (destination units w m).items change.id
+    (drafted_name (draft_now units b rules w.pending change (state_of (destination units w m).items change.id)))
+    (draft_now units b rules w.pending change (state_of (destination units w m).items change.id))
 unfolding task_plan
-plan_draft units b change w m good waits normal =
+plan_draft units b rules change w m good waits skip normal =
     let now : Member = destination units w m in
     let here : Option ItemState = state_of (destination units w m).items change.id in
     let known : laid_known units (destination units w m) ≡ w.pending.knowledge = laid_again units w.pending m good waits in
     let forgotten : forgets_after b (destination units w m) ≡ w.pending.forgotten = rw normal refl in
-    let draft : draft_of units skip_rules (class_of units (laid_known units now) b.made_with (forgets_after b now) change here) (Some change.state) here
-    ≡ draft_now units b w.pending change here =
-    ap (λ (k : Known). draft_of units skip_rules (class_of units k b.made_with (forgets_after b now) change here) (Some change.state) here) known
-    ∙ ap (λ (f : Forgets). draft_of units skip_rules (class_of units w.pending.knowledge b.made_with f change here) (Some change.state) here) forgotten in
-    plan_settled units now.items change.id
-    (drafted_name (draft_of units skip_rules (class_of units (laid_known units now) b.made_with (forgets_after b now) change here) (Some change.state) here))
-    (draft_of units skip_rules (class_of units (laid_known units now) b.made_with (forgets_after b now) change here) (Some change.state) here)
-    ∙ ap (λ (d : Draft). settled units now.items change.id (drafted_name d) d) draft
+    let draft : task_draft units rules b now here (Change change) ≡ draft_now units b rules w.pending change here =
+    ap (λ (k : Known). draft_of units rules (class_of units k b.made_with (forgets_after b now) change here) (Some change.state) here) known
+    ∙ ap (λ (f : Forgets). draft_of units rules (class_of units w.pending.knowledge b.made_with f change here) (Some change.state) here) forgotten in
+    plan_settled units rules.clash now.items change.id (task_draft units rules b now here (Change change)) skip
+    ∙ ap (λ (d : Draft). settled units rules.clash now.items change.id (drafted_name d) d) draft
 
 -- The drafted name is one.
 pub drafted_valid :
-    (units : ℕ) (b : Batch) (change : MemberItem) (w : WorkData) (m : Member) (name : List ℕ)
-    → IsConsistent units m → Waits units w.pending m → IsItemState units change.state
-    → drafted_name (draft_now units b w.pending change (state_of (destination units w m).items change.id)) ≡ Some name → IsName name
-drafted_valid units b change w m name good waits whole is =
-    (change_draft units w.pending.knowledge b.made_with w.pending.forgotten change (state_of (destination units w m).items change.id)
-    good.some whole (whole_here (state_of (destination units w m).items change.id) refl)).valid name is
+    (units : ℕ) (b : Batch) (rules : Rules) (change : MemberItem) (w : WorkData) (m : Member) (name : List ℕ)
+    → IsConsistent units m → Waits units w.pending m → rules.keep ≡ SkipContent → IsItemState units change.state
+    → drafted_name (draft_now units b rules w.pending change (state_of (destination units w m).items change.id)) ≡ Some name → IsName name
+drafted_valid units b rules change w m name good waits skip whole is =
+    (change_draft units rules w.pending.knowledge b.made_with w.pending.forgotten change (state_of (destination units w m).items change.id)
+    skip good.some whole (whole_here (state_of (destination units w m).items change.id) refl)).valid name is
   where
     whole_here : (o : Option ItemState) → state_of (destination units w m).items change.id ≡ o → IsWholeHere units o
     whole_here None e = tt
@@ -149,23 +158,23 @@ drafted_valid units b change w m name good waits whole is =
 
 -- The draft that was found, as it is settled.
 pub found_settled :
-    (units : ℕ) (b : Batch) (change : MemberItem) (w : WorkData) (m : Member) (here : Option ItemState) (draft : Draft)
-    → IsConsistent units m → Waits units w.pending m → b.mode ≡ Normal
-    → here ≡ state_of (destination units w m).items change.id → draft ≡ draft_now units b w.pending change here
-    → (if is_free_or_none (destination units w m).items change.id (drafted_name draft) then draft else all_left units)
-    ≡ (plan_at units b change (destination units w m)).draft
-found_settled units b change w m here draft good waits normal there found =
-    let is : draft ≡ draft_now units b w.pending change (state_of (destination units w m).items change.id) =
-    found ∙ ap (draft_now units b w.pending change) there in
-    settled_free units (destination units w m).items change.id (drafted_name draft) draft
-    ∙ ap (λ (d : Draft). settled units (destination units w m).items change.id (drafted_name d) d) is
-    ∙ sym (plan_draft units b change w m good waits normal)
+    (units : ℕ) (b : Batch) (rules : Rules) (change : MemberItem) (w : WorkData) (m : Member) (here : Option ItemState) (draft : Draft)
+    → IsConsistent units m → Waits units w.pending m → rules.clash ≡ SkipClash → b.mode ≡ Normal
+    → here ≡ state_of (destination units w m).items change.id → draft ≡ draft_now units b rules w.pending change here
+    → (if is_free_or_none (destination units w m).items change.id (drafted_name draft) then draft else clash_draft units rules.clash draft)
+    ≡ (plan_at units b rules change (destination units w m)).draft
+found_settled units b rules change w m here draft good waits skip normal there found =
+    let is : draft ≡ draft_now units b rules w.pending change (state_of (destination units w m).items change.id) =
+    found ∙ ap (draft_now units b rules w.pending change) there in
+    settled_free units rules.clash (destination units w m).items change.id (drafted_name draft) draft
+    ∙ ap (λ (d : Draft). settled units rules.clash (destination units w m).items change.id (drafted_name d) d) is
+    ∙ sym (plan_draft units b rules change w m good waits skip normal)
 
 pub found_valid :
-    (units : ℕ) (b : Batch) (change : MemberItem) (w : WorkData) (m : Member) (here : Option ItemState) (draft : Draft)
-    → IsConsistent units m → Waits units w.pending m → IsItemState units change.state
-    → here ≡ state_of (destination units w m).items change.id → draft ≡ draft_now units b w.pending change here
+    (units : ℕ) (b : Batch) (rules : Rules) (change : MemberItem) (w : WorkData) (m : Member) (here : Option ItemState) (draft : Draft)
+    → IsConsistent units m → Waits units w.pending m → rules.keep ≡ SkipContent → IsItemState units change.state
+    → here ≡ state_of (destination units w m).items change.id → draft ≡ draft_now units b rules w.pending change here
     → (name : List ℕ) → drafted_name draft ≡ Some name → IsName name
-found_valid units b change w m here draft good waits whole there found name named =
-    drafted_valid units b change w m name good waits whole
-    (ap drafted_name (sym (found ∙ ap (draft_now units b w.pending change) there)) ∙ named)
+found_valid units b rules change w m here draft good waits skip whole there found name named =
+    drafted_valid units b rules change w m name good waits skip whole
+    (ap drafted_name (sym (found ∙ ap (draft_now units b rules w.pending change) there)) ∙ named)

@@ -1,4 +1,4 @@
--- What the drafts of changes are under the rules that skip conflicts.
+-- What the drafts of changes are under rules that leave conflicts of contents alone.
 use Rattle.std.proofs.Common.{◌≡◌, ◌⊎◌, ℕ, ◌<◌, ◌≤◌, Bool, true, false, if◌then◌else◌, List, [], ◌∷◌, length, replicate, map, Option, Some, None, slice_get, inl, inr, refl, sym, ◌∙◌, ap, subst, arith}
 use Rattle.std.specs.List.{list_any, list_all}
 use Rattle.std.specs.Option.{unwrap_or, option_and_then, option_map, option_map_or}
@@ -7,18 +7,20 @@ use Rattle.sfx_ids.specs.declared.version.Version.{Version}
 use Rattle.sfx_item.specs.declared.cell.Cell.{Cell}
 use Rattle.sfx_item.specs.Name.{IsName}
 use Rattle.sfx_item.specs.Row.{HasName, IsRow, first_value}
+use Rattle.sfx_model.specs.declared.keep.Keep.{Keep}
 use Rattle.sfx_model.specs.declared.keep.Keep.TheVariants.{Skip}
 use Rattle.sfx_model.specs.declared.mark.Mark.{Mark}
 use Rattle.sfx_model.specs.declared.mark.Mark.TheVariants.{Stays, Taken, Stamped, Left, Gone}
 use Rattle.sfx_model.specs.declared.unit_class.UnitClass.{UnitClass}
 use Rattle.sfx_model.specs.declared.unit_class.UnitClass.TheVariants.{Known, Newer, Concurrent}
 use Rattle.sfx_model.specs.Clashes.{drafted_name}
+use Rattle.sfx_model.specs.Class.{WholeConflict}
 use Rattle.sfx_model.specs.Consistent.{IsItemState, live_name}
-use Rattle.sfx_model.specs.Draft.{Draft, all_marked, cells_of, is_left, unit_mark, unit_marks, unit_value, unit_values, units_draft, value_in, values_of}
+use Rattle.sfx_model.specs.Draft.{Draft, all_marked, cells_of, conflict_value, draft_of, is_left, unit_mark, unit_marks, unit_value, unit_values, units_draft, value_in, values_of, whole_draft as all_conflict}
 use Rattle.sfx_model.specs.Entry.{cell_after, cells_after, is_gone, is_stamped, is_taken, no_cell, state_after}
 use Rattle.sfx_model.specs.Headline.{version_at}
 use Rattle.sfx_model.specs.Members.{ItemState, Live, Dead}
-use Rattle.sfx_model.specs.Rules.{skip_rules}
+use Rattle.sfx_model.specs.Rules.{Rules}
 use Rattle.sfx_model.specs.Units.{at_unit}
 use Rattle.sfx_apply.specs.Work.{taken_cells, taken_state}
 use Rattle.sfx_apply.proofs.EachUnit.{at_mapped, at_same, each_at, each_itself, each_same, length-each, none_at, none_mapped, none_same, not_all, some_same}
@@ -144,7 +146,7 @@ whole_draft units seen here some whole one =
       valid = λ name is. whole_valid units seen name whole is;
     }
 
--- Under the rules that skip, a unit stays, is taken or is left alone.
+-- Where conflicts are left alone, a unit stays, is taken or is left alone.
 quiet_mark : (class : UnitClass) → (is_stamped (unit_mark Skip class) ≡ false) × (is_gone (unit_mark Skip class) ≡ false)
 quiet_mark Known = (refl, refl)
 quiet_mark Newer = (refl, refl)
@@ -256,12 +258,12 @@ taken_version units marks seen here u v row_seen row_here small is =
 
 -- The drafted name is that of the item as it becomes.
 first_drafted :
-    (units : ℕ) (classes : List UnitClass) (seen here : List Cell)
-    → 1 ≤ units
-    → slice_get (unit_values units skip_rules classes seen here) 0
+    (units : ℕ) (rules : Rules) (classes : List UnitClass) (seen here : List Cell)
+    → rules.keep ≡ Skip → 1 ≤ units
+    → slice_get (unit_values units rules classes seen here) 0
     ≡ first_value (taken_cells units (unit_marks Skip classes) seen here)
-first_drafted units classes seen here some =
-    each_at (λ u. unit_value skip_rules u (at_unit classes u Known) (value_in seen u) (value_in here u)) units 0 (omega arith)
+first_drafted units rules classes seen here skip some =
+    each_at (λ u. unit_value rules u (at_unit classes u Known) (value_in seen u) (value_in here u)) units 0 (omega arith)
     ∙ ap (λ x. Some x) (by_class (at_unit classes 0 Known))
     ∙ ap (λ (k : Mark). Some (if is_taken k then at_unit seen 0 no_cell else at_unit here 0 no_cell).value)
     (sym (at_mapped (unit_mark Skip) classes 0 Known))
@@ -269,11 +271,13 @@ first_drafted units classes seen here some =
   where
     by_class :
         (class : UnitClass)
-        → unit_value skip_rules 0 class (value_in seen 0) (value_in here 0)
+        → unit_value rules 0 class (value_in seen 0) (value_in here 0)
         ≡ (if is_taken (unit_mark Skip class) then at_unit seen 0 no_cell else at_unit here 0 no_cell).value
     by_class Known = value_of_unit here 0
     by_class Newer = value_of_unit seen 0
-    by_class Concurrent = value_of_unit here 0
+    by_class Concurrent =
+        ap (λ (k : Keep). conflict_value k (rules.merge 0 (value_in seen 0) (value_in here 0)) (value_in seen 0) (value_in here 0)) skip
+        ∙ value_of_unit here 0
 
 -- A unit that is taken is not left alone.
 taken_not_left : (k : Mark) → is_taken k ≡ true → is_left k ≡ false
@@ -283,29 +287,36 @@ taken_not_left Stamped is = refl
 taken_not_left Left is = absurd (cc)
 taken_not_left Gone is = refl
 
+-- The draft unit by unit with marks of this rule of contents.
+abbrev marked_draft : ℕ → Rules → Keep → List UnitClass → List Cell → List Cell → Draft
+marked_draft units rules keep classes seen here = record {
+  marks = unit_marks keep classes;
+  values = if list_all is_left (unit_marks keep classes) then None else Some (unit_values units rules classes seen here);
+}
+
 units_brings :
-    (units : ℕ) (classes : List UnitClass) (seen here : List Cell)
-    → 1 ≤ units → IsRow units seen → IsRow units here → list_any is_taken (unit_marks Skip classes) ≡ true
-    → Brings units (Live seen) (Some (Live here)) (units_draft units skip_rules classes seen here)
-units_brings units classes seen here some row_seen row_here taken =
+    (units : ℕ) (rules : Rules) (classes : List UnitClass) (seen here : List Cell)
+    → rules.keep ≡ Skip → 1 ≤ units → IsRow units seen → IsRow units here → list_any is_taken (unit_marks Skip classes) ≡ true
+    → Brings units (Live seen) (Some (Live here)) (marked_draft units rules Skip classes seen here)
+units_brings units rules classes seen here skip some row_seen row_here taken =
     let quiet : IsQuiet (unit_marks Skip classes) = units_quiet classes in
     let kept : list_all is_left (unit_marks Skip classes) ≡ false = not_all is_taken is_left (unit_marks Skip classes) taken_not_left taken in record {
       taken = taken;
       state = λ v.
           rw (quiet.gone, taken, kept)
           (ap (λ (cs : List Cell). Some (Live cs))
-          (cells_unstamped units v (unit_marks Skip classes) (unit_values units skip_rules classes seen here) seen here quiet.stamped));
+          (cells_unstamped units v (unit_marks Skip classes) (unit_values units rules classes seen here) seen here quiet.stamped));
       whole = taken_row units (unit_marks Skip classes) seen here some row_seen row_here;
       versions = λ u v small is. taken_version units (unit_marks Skip classes) seen here u v row_seen row_here small is;
       left = λ u small is. (Live here, refl);
-      named = λ name is. rw kept (first_drafted units classes seen here some ∙ is);
+      named = λ name is. rw kept (first_drafted units rules classes seen here skip some ∙ is);
     }
 
-pub parts_draft :
-    (units : ℕ) (classes : List UnitClass) (seen here : List Cell)
-    → 1 ≤ units → IsRow units seen → IsRow units here
-    → SkipsConflicts units (Live seen) (Some (Live here)) (units_draft units skip_rules classes seen here)
-parts_draft units classes seen here some row_seen row_here = record {
+skipped_parts :
+    (units : ℕ) (rules : Rules) (classes : List UnitClass) (seen here : List Cell)
+    → rules.keep ≡ Skip → 1 ≤ units → IsRow units seen → IsRow units here
+    → SkipsConflicts units (Live seen) (Some (Live here)) (marked_draft units rules Skip classes seen here)
+skipped_parts units rules classes seen here skip some row_seen row_here = record {
   quiet = units_quiet classes;
   result = by_test (list_any is_taken (unit_marks Skip classes)) refl;
   valid = λ name is. by_left (list_all is_left (unit_marks Skip classes)) name is;
@@ -313,16 +324,33 @@ parts_draft units classes seen here some row_seen row_here = record {
   where
     by_left :
         (b : Bool) (name : List ℕ)
-        → option_and_then (λ values. slice_get values 0) (if b then None else Some (unit_values units skip_rules classes seen here)) ≡ Some name
+        → option_and_then (λ values. slice_get values 0) (if b then None else Some (unit_values units rules classes seen here)) ≡ Some name
         → IsName name
     by_left true name is = absurd (cc)
     by_left false name is =
         row_name (taken_cells units (unit_marks Skip classes) seen here) name
         (taken_row units (unit_marks Skip classes) seen here some row_seen row_here).named
-        (sym (first_drafted units classes seen here some) ∙ is)
+        (sym (first_drafted units rules classes seen here skip some) ∙ is)
 
     by_test :
         (b : Bool) → list_any is_taken (unit_marks Skip classes) ≡ b
-        → (list_any is_taken (unit_marks Skip classes) ≡ false) ⊎ Brings units (Live seen) (Some (Live here)) (units_draft units skip_rules classes seen here)
-    by_test true e = inr (units_brings units classes seen here some row_seen row_here e)
+        → (list_any is_taken (unit_marks Skip classes) ≡ false)
+        ⊎ Brings units (Live seen) (Some (Live here)) (marked_draft units rules Skip classes seen here)
+    by_test true e = inr (units_brings units rules classes seen here skip some row_seen row_here e)
     by_test false e = inl e
+
+pub parts_draft :
+    (units : ℕ) (rules : Rules) (classes : List UnitClass) (seen here : List Cell)
+    → rules.keep ≡ Skip → 1 ≤ units → IsRow units seen → IsRow units here
+    → SkipsConflicts units (Live seen) (Some (Live here)) (units_draft units rules classes seen here)
+parts_draft units rules classes seen here skip some row_seen row_here =
+    subst (λ (k : Keep). SkipsConflicts units (Live seen) (Some (Live here)) (marked_draft units rules k classes seen here)) (sym skip)
+    (skipped_parts units rules classes seen here skip some row_seen row_here)
+
+-- A conflict of all units is left alone.
+pub left_draft :
+    (units : ℕ) (rules : Rules) (seen : ItemState) (here : Option ItemState)
+    → rules.keep ≡ Skip → SkipsConflicts units seen here (draft_of units rules WholeConflict (Some seen) here)
+left_draft units rules seen here skip =
+    subst (λ (k : Keep). SkipsConflicts units seen here (all_conflict units k (Some seen) here)) (sym skip)
+    (still_draft units seen here Left refl refl refl)

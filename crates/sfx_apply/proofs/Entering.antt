@@ -17,15 +17,17 @@ use Rattle.sfx_model.specs.Draft.{Draft}
 use Rattle.sfx_model.specs.Items.{state_view}
 use Rattle.sfx_model.specs.Entry.{Change, Changing, Entry, Other, changed_by, entry_of, is_stamped, kind_of, kind_of_marks, lacks, ticks_needed}
 use Rattle.sfx_model.specs.Members.{ItemState, MemberItem, Member, AreRising, state_of}
+use Rattle.sfx_model.specs.Rules.{Rules}
 use Rattle.sfx_model.specs.Session.{is_spent, reduced, stop_before}
 use Rattle.sfx_provider.specs.Commit.{CommitData}
 use Rattle.sfx_provider.proofs.Commits.{commits_consistent, stored}
-use Rattle.sfx_apply.specs.Turns.{WorkData, destination, end_before, plan_at, turned, unless_ended, with_entry_of}
+use Rattle.sfx_apply.specs.Rules.{LeavesConflicts}
+use Rattle.sfx_apply.specs.Turns.{WorkData, destination, end_before, entered, plan_at, turned, unless_ended, with_entry_of}
 use Rattle.sfx_apply.specs.Work.{KnowsNoMore, Waits, with_marks}
 use Rattle.sfx_apply.proofs.Fitting.{change_waits}
 use Rattle.sfx_apply.proofs.Laying.{changed_skipped}
 use Rattle.sfx_apply.proofs.Plans.{SkipsAll}
-use Rattle.sfx_apply.proofs.Standing.{plan_skips}
+use Rattle.sfx_apply.proofs.Skipping.{plan_skips}
 
 -- The entry with these marks, where conflicts are skipped.
 abbrev pub quiet_entry : ItemId → List Mark → Entry
@@ -63,38 +65,39 @@ stops_spent budget p m quiet alone more = rw (more, never_full p m.clock quiet a
 
 -- Where the budget is spent, the batch ends, and the work stays.
 pub spent_turn :
-    (units : ℕ) (b : Batch) (change : MemberItem) (w : WorkData) (m : Member)
+    (units : ℕ) (b : Batch) (rules : Rules) (change : MemberItem) (w : WorkData) (m : Member)
     → is_spent w.budget ≡ true
-    → (Some Cut ≡ end_before units b change w m) × (w ≡ turned units b change w m)
-spent_turn units b change w m spent =
-    let end : end_before units b change w m ≡ Some Cut = rw spent refl in (
+    → (Some Cut ≡ end_before units b rules change w m) × (w ≡ turned units b rules change w m)
+spent_turn units b rules change w m spent =
+    let end : end_before units b rules change w m ≡ Some Cut = rw spent refl in (
       sym end,
-      sym (ap (λ (o : Option ApplyEnd). unless_ended o w (with_entry_of units b change (plan_at units b change (destination units w m)) (destination units w m) w)) end),
+      sym (ap (λ (o : Option ApplyEnd). unless_ended o w (entered units b rules change w m)) end),
     )
 
 abbrev working : CommitData → List Entry → Option ℕ → WorkData
 working pending entries budget = record { pending = pending; entries = entries; budget = budget }
 
--- Else the change is taken.
+-- Else the change is taken, where conflicts are left alone.
 pub taken_turn :
-    (units : ℕ) (b : Batch) (change : MemberItem) (w after : WorkData) (m : Member) (here : Option ItemState) (marks : List Mark)
-    → IsConsistent units m → Waits units w.pending m → IsBatch units b → KnowsNoMore units m b → IsSent units b change.id change.state
+    (units : ℕ) (b : Batch) (rules : Rules) (change : MemberItem) (w after : WorkData) (m : Member) (here : Option ItemState) (marks : List Mark)
+    → IsConsistent units m → Waits units w.pending m → IsBatch units b → LeavesConflicts rules → KnowsNoMore units m b
+    → IsSent units b change.id change.state
     → is_spent w.budget ≡ false
     → here ≡ state_of (destination units w m).items change.id
-    → marks ≡ (plan_at units b change (destination units w m)).draft.marks
+    → marks ≡ (plan_at units b rules change (destination units w m)).draft.marks
     → after.pending ≡ with_marks units b change marks here w.pending
     → after.entries ≡ w.entries ++ quiet_entry change.id marks ∷ []
     → after.budget ≡ reduced w.budget 1
-    → (None ≡ end_before units b change w m) × (after ≡ turned units b change w m) × Waits units after.pending m
-taken_turn units b change w after m here marks good waits batch no_more sent more there marked pending entries budget =
+    → (None ≡ end_before units b rules change w m) × (after ≡ turned units b rules change w m) × Waits units after.pending m
+taken_turn units b rules change w after m here marks good waits batch skip no_more sent more there marked pending entries budget =
     let now : Member = destination units w m in
-    let plan : Plan = plan_at units b change (destination units w m) in
-    let skips : SkipsAll units change.id change.state (state_of (destination units w m).items change.id) (destination units w m).items (plan_at units b change (destination units w m)) =
-    plan_skips units b change w m good waits sent in
+    let plan : Plan = plan_at units b rules change (destination units w m) in
+    let skips : SkipsAll units change.id change.state (state_of (destination units w m).items change.id) (destination units w m).items (plan_at units b rules change (destination units w m)) =
+    plan_skips units b rules change w m good waits skip sent in
     let rising : AreRising (destination units w m).items = (commits_consistent units w.pending m good (stored units w.pending m good waits.form) waits.fits).rising in
-    let none : end_before units b change w m ≡ None = stops_spent w.budget plan now skips.quiet.stamped skips.alone more in
-    let next : turned units b change w m ≡ with_entry_of units b change plan now w =
-    ap (λ (o : Option ApplyEnd). unless_ended o w (with_entry_of units b change (plan_at units b change (destination units w m)) (destination units w m) w)) none in
+    let none : end_before units b rules change w m ≡ None = stops_spent w.budget plan now skips.quiet.stamped skips.alone more in
+    let next : turned units b rules change w m ≡ with_entry_of units b change plan now w =
+    ap (λ (o : Option ApplyEnd). unless_ended o w (entered units b rules change w m)) none in
     let pending_is : after.pending ≡ with_marks units b change plan.draft.marks (state_of now.items change.id) w.pending =
     pending ∙ ap (λ (ms : List Mark). with_marks units b change ms here w.pending) marked
     ∙ ap (λ (o : Option ItemState). with_marks units b change plan.draft.marks o w.pending) there in
@@ -123,18 +126,18 @@ copied_state {U} (Some x) (Some y) is =
 
 -- The turn of a change that was taken, by what was read.
 pub read_turn :
-    {U : ℕ} (b : Batch) (change : MemberItem) (w after : WorkData) (m n : Member) (item : Option (Bor (Item U))) (local : Option (Item U))
+    {U : ℕ} (b : Batch) (rules : Rules) (change : MemberItem) (w after : WorkData) (m n : Member) (item : Option (Bor (Item U))) (local : Option (Item U))
     (draft : Draft) (marks : List Mark)
-    → IsConsistent U m → Waits U w.pending m → IsBatch U b → KnowsNoMore U m b → IsSent U b change.id change.state
+    → IsConsistent U m → Waits U w.pending m → IsBatch U b → LeavesConflicts rules → KnowsNoMore U m b → IsSent U b change.id change.state
     → is_spent w.budget ≡ false
     → option_copied item ≡ local → option_map (λ x. state_view x.state) local ≡ state_of (destination U w m).items change.id
-    → n ≡ m → marks ≡ draft.marks → draft ≡ (plan_at U b change (destination U w n)).draft
+    → n ≡ m → marks ≡ draft.marks → draft ≡ (plan_at U b rules change (destination U w n)).draft
     → after.pending ≡ with_marks U b change marks (option_map (λ x. state_view x.now.state) item) w.pending
     → after.entries ≡ w.entries ++ quiet_entry change.id marks ∷ []
     → after.budget ≡ reduced w.budget 1
-    → (None ≡ end_before U b change w m) × (after ≡ turned U b change w m) × Waits U after.pending m
-read_turn {U} b change w after m n item local draft marks good waits batch no_more sent more copied there same opened planned pending entries budget =
-    let marked : marks ≡ (plan_at U b change (destination U w m)).draft.marks =
-    opened ∙ ap (λ (d : Draft). d.marks) planned ∙ ap (λ (x : Member). (plan_at U b change (destination U w x)).draft.marks) same in
-    taken_turn U b change w after m (option_map (λ x. state_view x.now.state) item) marks good waits batch no_more sent more
+    → (None ≡ end_before U b rules change w m) × (after ≡ turned U b rules change w m) × Waits U after.pending m
+read_turn {U} b rules change w after m n item local draft marks good waits batch skip no_more sent more copied there same opened planned pending entries budget =
+    let marked : marks ≡ (plan_at U b rules change (destination U w m)).draft.marks =
+    opened ∙ ap (λ (d : Draft). d.marks) planned ∙ ap (λ (x : Member). (plan_at U b rules change (destination U w x)).draft.marks) same in
+    taken_turn U b rules change w after m (option_map (λ x. state_view x.now.state) item) marks good waits batch skip no_more sent more
     (copied_state item local copied ∙ there) marked pending entries budget

@@ -21,12 +21,14 @@ use Rattle.sfx_model.specs.Entry.{Change, Changing, after_task, change_others, c
 use Rattle.sfx_model.specs.Knowing.{learned_known, stored_known}
 use Rattle.sfx_model.specs.Members.{ItemState, MemberItem, Member, AreRising, state_of}
 use Rattle.sfx_model.specs.Putting.{drop_all, put_all, put_item, with_state_of}
-use Rattle.sfx_model.specs.Session.{after_range}
+use Rattle.sfx_model.specs.Rules.{Rules}
+use Rattle.sfx_model.specs.Session.{after_range, lefts}
 use Rattle.sfx_model.specs.States.{next_version}
 use Rattle.sfx_model.proofs.Learned.{laid_other}
 use Rattle.sfx_model.proofs.Storing.{learned_form, learned_has, stored_is}
 use Rattle.sfx_provider.specs.Commit.{CommitData, committed}
 use Rattle.sfx_provider.proofs.Puts.{puts_rising}
+use Rattle.sfx_apply.specs.Turns.{WorkData, destination, entered, plan_at, with_range_of}
 use Rattle.sfx_apply.specs.Work.{Waits, put_taken, taken_state, with_marks, with_range}
 use Rattle.sfx_apply.proofs.Items.{put_on, same_state}
 use Rattle.sfx_apply.proofs.Plans.{SkipsAll}
@@ -79,6 +81,14 @@ forgets_normal b m normal = rw normal refl
 
 abbrev changing : ℕ → List MemberItem → Changing
 changing clock items = record { clock = clock; items = items; others = [] }
+
+-- The entry of a change is laid over as it is to be: the destination with it waiting is the destination after
+-- its task, and the replica's state takes what waits.
+pub record Lays (units : ℕ) (b : Batch) (rules : Rules) (change : MemberItem) (w : WorkData) (m : Member) : Type 0 where
+  pub laid :
+      destination units (entered units b rules change w m) m
+      ≡ after_task units b (Change change) (plan_at units b rules change (destination units w m)) (destination units w m)
+  pub waits : Waits units (entered units b rules change w m).pending m
 
 -- The items after a change that skips conflicts.
 state_skipped :
@@ -171,3 +181,12 @@ range_laid units b left c m good waits batch normal =
     member_is (committed units (with_range units b left c) m) (after_range units b left (committed units c m)) refl refl
     (learned_stored units m.id b.from b.to left c.knowledge b.made_with good.some good.id waits.form batch.made_with)
     (sym (forgets_normal b (committed units c m) normal)) refl
+
+-- The batch's range is laid over as it is to be: the destination with it waiting is the destination after it.
+abbrev pub RangeLays : ℕ → Batch → WorkData → Member → Type 0
+RangeLays units b w m = destination units (with_range_of units b w) m ≡ after_range units b (lefts w.entries) (destination units w m)
+
+pub range_lays :
+    (units : ℕ) (b : Batch) (w : WorkData) (m : Member)
+    → IsConsistent units m → Waits units w.pending m → IsBatch units b → b.mode ≡ Normal → RangeLays units b w m
+range_lays units b w m good waits batch normal = range_laid units b (lefts w.entries) w.pending m good waits batch normal

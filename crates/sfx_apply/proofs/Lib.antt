@@ -7,6 +7,7 @@ pub mod Clashing
 pub mod LeftOut
 pub mod Fitting
 pub mod Groups
+pub mod Skipping
 pub mod Standing
 pub mod Exits
 pub mod Placing

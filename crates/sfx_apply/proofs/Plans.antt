@@ -1,92 +1,95 @@
--- What the plans of changes are under the rules that skip conflicts.
+-- What the plans of changes are under rules that leave conflicts alone.
 use Rattle.std.proofs.Common.{◌≡◌, ◌⊎◌, ℕ, ◌≤◌, Bool, true, false, if◌then◌else◌, List, [], ◌∷◌, replicate, Option, Some, None, inl, inr, refl, sym, ◌∙◌, subst}
 use Rattle.std.specs.List.{list_any}
 use Rattle.sfx_ids.specs.declared.item_id.ItemId.{ItemId}
 use Rattle.sfx_ids.specs.ItemId.{creation_of}
 use Rattle.sfx_knowledge.specs.Forgotten.{Forgets}
 use Rattle.sfx_knowledge.specs.Knowledge.{Known}
+use Rattle.sfx_model.specs.declared.clash_rule.ClashRule.{ClashRule}
 use Rattle.sfx_model.specs.declared.clash_rule.ClashRule.TheVariants.{Skip as SkipClash}
+use Rattle.sfx_model.specs.declared.keep.Keep.TheVariants.{Skip}
 use Rattle.sfx_model.specs.declared.mark.Mark.TheVariants.{Left, Stays}
 use Rattle.sfx_model.specs.Batch.{Batch}
 use Rattle.sfx_model.specs.Class.{AllKnown, TakeWhole, WholeConflict, absent_change, class_of, is_forgotten_within, present_change, unit_class, unknown_change}
-use Rattle.sfx_model.specs.Clashes.{Plan, drafted_name, plan_among, plan_named}
+use Rattle.sfx_model.specs.Clashes.{Plan, drafted_name, plan_among, plan_named, plan_of}
 use Rattle.sfx_model.specs.Consistent.{IsItemState, live_name}
 use Rattle.sfx_model.specs.Draft.{Draft, draft_of}
-use Rattle.sfx_model.specs.Entry.{Change, forgets_after, is_taken, kind_by, kind_of_marks, task_plan}
+use Rattle.sfx_model.specs.Entry.{Change, forgets_after, is_taken, kind_by, kind_of_marks, task_draft, task_plan}
 use Rattle.sfx_model.specs.Knowing.{laid_known}
 use Rattle.sfx_model.specs.Members.{ItemState, Live, Dead, MemberItem, Member, state_of}
 use Rattle.sfx_model.specs.Readings.{clashing_with, is_unseen, knows_version}
-use Rattle.sfx_model.specs.Rules.{skip_rules}
+use Rattle.sfx_model.specs.Rules.{Rules}
 use Rattle.sfx_model.specs.Units.{each_unit}
+use Rattle.sfx_apply.specs.Rules.{LeavesConflicts}
 use Rattle.sfx_apply.specs.Work.{taken_state}
 use Rattle.sfx_apply.proofs.EachUnit.{none_same}
-use Rattle.sfx_apply.proofs.Drafts.{Brings, IsOneSided, IsQuiet, IsWholeHere, SkipsConflicts, parts_draft, still_draft, whole_draft}
+use Rattle.sfx_apply.proofs.Drafts.{Brings, IsOneSided, IsQuiet, IsWholeHere, SkipsConflicts, left_draft, parts_draft, still_draft, whole_draft}
 
 -- An item that is not live on both sides is taken as it is, or left alone.
 one_sided :
-    (units : ℕ) (seen : ItemState) (here : Option ItemState) (b : Bool)
-    → 1 ≤ units → IsItemState units seen → IsOneSided seen here
-    → SkipsConflicts units seen here (draft_of units skip_rules (if b then TakeWhole else WholeConflict) (Some seen) here)
-one_sided units seen here true some whole one = whole_draft units seen here some whole one
-one_sided units seen here false some whole one = still_draft units seen here Left refl refl refl
+    (units : ℕ) (rules : Rules) (seen : ItemState) (here : Option ItemState) (b : Bool)
+    → rules.keep ≡ Skip → 1 ≤ units → IsItemState units seen → IsOneSided seen here
+    → SkipsConflicts units seen here (draft_of units rules (if b then TakeWhole else WholeConflict) (Some seen) here)
+one_sided units rules seen here true skip some whole one = whole_draft units seen here some whole one
+one_sided units rules seen here false skip some whole one = left_draft units rules seen here skip
 
 one_sided_not :
-    (units : ℕ) (seen : ItemState) (here : Option ItemState) (b : Bool)
-    → 1 ≤ units → IsItemState units seen → IsOneSided seen here
-    → SkipsConflicts units seen here (draft_of units skip_rules (if b then WholeConflict else TakeWhole) (Some seen) here)
-one_sided_not units seen here true some whole one = still_draft units seen here Left refl refl refl
-one_sided_not units seen here false some whole one = whole_draft units seen here some whole one
+    (units : ℕ) (rules : Rules) (seen : ItemState) (here : Option ItemState) (b : Bool)
+    → rules.keep ≡ Skip → 1 ≤ units → IsItemState units seen → IsOneSided seen here
+    → SkipsConflicts units seen here (draft_of units rules (if b then WholeConflict else TakeWhole) (Some seen) here)
+one_sided_not units rules seen here true skip some whole one = left_draft units rules seen here skip
+one_sided_not units rules seen here false skip some whole one = whole_draft units seen here some whole one
 
 absent_one_sided : (seen : ItemState) → IsOneSided seen None
 absent_one_sided (Live cells) = tt
 absent_one_sided (Dead v) = tt
 
 absent_draft :
-    (units : ℕ) (known made_with : Known) (forgotten : Forgets) (i : ItemId) (seen : ItemState)
-    → 1 ≤ units → IsItemState units seen
-    → SkipsConflicts units seen None (draft_of units skip_rules (absent_change units known made_with forgotten i) (Some seen) None)
-absent_draft units known made_with forgotten i seen some whole = by_test (knows_version known i 0 (creation_of i))
+    (units : ℕ) (rules : Rules) (known made_with : Known) (forgotten : Forgets) (i : ItemId) (seen : ItemState)
+    → rules.keep ≡ Skip → 1 ≤ units → IsItemState units seen
+    → SkipsConflicts units seen None (draft_of units rules (absent_change units known made_with forgotten i) (Some seen) None)
+absent_draft units rules known made_with forgotten i seen skip some whole = by_test (knows_version known i 0 (creation_of i))
   where
     by_test :
         (b : Bool)
         → SkipsConflicts units seen None
-        (draft_of units skip_rules (if b then (if is_forgotten_within units forgotten made_with i then TakeWhole else WholeConflict) else TakeWhole) (Some seen) None)
-    by_test true = one_sided units seen None (is_forgotten_within units forgotten made_with i) some whole (absent_one_sided seen)
+        (draft_of units rules (if b then (if is_forgotten_within units forgotten made_with i then TakeWhole else WholeConflict) else TakeWhole) (Some seen) None)
+    by_test true = one_sided units rules seen None (is_forgotten_within units forgotten made_with i) skip some whole (absent_one_sided seen)
     by_test false = whole_draft units seen None some whole (absent_one_sided seen)
 
 present_draft :
-    (units : ℕ) (known made_with : Known) (i : ItemId) (seen own : ItemState)
-    → 1 ≤ units → IsItemState units seen → IsItemState units own
-    → SkipsConflicts units seen (Some own) (draft_of units skip_rules (present_change units known made_with i seen own) (Some seen) (Some own))
-present_draft units known made_with i (Live seen) (Live own) some whole whole_here =
-    parts_draft units (each_unit units (unit_class known made_with i (Live seen) (Live own))) seen own some whole whole_here
-present_draft units known made_with i (Live seen) (Dead v) some whole whole_here =
-    one_sided_not units (Live seen) (Some (Dead v)) (is_unseen units made_with (record { id = i; state = Dead v })) some whole tt
-present_draft units known made_with i (Dead d) own some whole whole_here =
-    one_sided_not units (Dead d) (Some own) (is_unseen units made_with (record { id = i; state = own })) some whole tt
+    (units : ℕ) (rules : Rules) (known made_with : Known) (i : ItemId) (seen own : ItemState)
+    → rules.keep ≡ Skip → 1 ≤ units → IsItemState units seen → IsItemState units own
+    → SkipsConflicts units seen (Some own) (draft_of units rules (present_change units known made_with i seen own) (Some seen) (Some own))
+present_draft units rules known made_with i (Live seen) (Live own) skip some whole whole_here =
+    parts_draft units rules (each_unit units (unit_class known made_with i (Live seen) (Live own))) seen own skip some whole whole_here
+present_draft units rules known made_with i (Live seen) (Dead v) skip some whole whole_here =
+    one_sided_not units rules (Live seen) (Some (Dead v)) (is_unseen units made_with (record { id = i; state = Dead v })) skip some whole tt
+present_draft units rules known made_with i (Dead d) own skip some whole whole_here =
+    one_sided_not units rules (Dead d) (Some own) (is_unseen units made_with (record { id = i; state = own })) skip some whole tt
 
 unknown_draft :
-    (units : ℕ) (known made_with : Known) (forgotten : Forgets) (change : MemberItem) (here : Option ItemState)
-    → 1 ≤ units → IsItemState units change.state → IsWholeHere units here
-    → SkipsConflicts units change.state here (draft_of units skip_rules (unknown_change units known made_with forgotten change here) (Some change.state) here)
-unknown_draft units known made_with forgotten change None some whole whole_here =
-    absent_draft units known made_with forgotten change.id change.state some whole
-unknown_draft units known made_with forgotten change (Some own) some whole whole_here =
-    present_draft units known made_with change.id change.state own some whole whole_here
+    (units : ℕ) (rules : Rules) (known made_with : Known) (forgotten : Forgets) (change : MemberItem) (here : Option ItemState)
+    → rules.keep ≡ Skip → 1 ≤ units → IsItemState units change.state → IsWholeHere units here
+    → SkipsConflicts units change.state here (draft_of units rules (unknown_change units known made_with forgotten change here) (Some change.state) here)
+unknown_draft units rules known made_with forgotten change None skip some whole whole_here =
+    absent_draft units rules known made_with forgotten change.id change.state skip some whole
+unknown_draft units rules known made_with forgotten change (Some own) skip some whole whole_here =
+    present_draft units rules known made_with change.id change.state own skip some whole whole_here
 
 -- The draft of each change skips conflicts.
 pub change_draft :
-    (units : ℕ) (known made_with : Known) (forgotten : Forgets) (change : MemberItem) (here : Option ItemState)
-    → 1 ≤ units → IsItemState units change.state → IsWholeHere units here
-    → SkipsConflicts units change.state here (draft_of units skip_rules (class_of units known made_with forgotten change here) (Some change.state) here)
+    (units : ℕ) (rules : Rules) (known made_with : Known) (forgotten : Forgets) (change : MemberItem) (here : Option ItemState)
+    → rules.keep ≡ Skip → 1 ≤ units → IsItemState units change.state → IsWholeHere units here
+    → SkipsConflicts units change.state here (draft_of units rules (class_of units known made_with forgotten change here) (Some change.state) here)
 unfolding class_of
-change_draft units known made_with forgotten change here some whole whole_here = by_test (is_unseen units known change)
+change_draft units rules known made_with forgotten change here skip some whole whole_here = by_test (is_unseen units known change)
   where
     by_test :
         (b : Bool)
         → SkipsConflicts units change.state here
-        (draft_of units skip_rules (if b then unknown_change units known made_with forgotten change here else AllKnown) (Some change.state) here)
-    by_test true = unknown_draft units known made_with forgotten change here some whole whole_here
+        (draft_of units rules (if b then unknown_change units known made_with forgotten change here else AllKnown) (Some change.state) here)
+    by_test true = unknown_draft units rules known made_with forgotten change here skip some whole whole_here
     by_test false = still_draft units change.state here Stays refl refl refl
 
 -- The name of the item as it becomes clashes with that of no other live item.
@@ -157,11 +160,13 @@ draft_plan units i seen here items draft skips = by_name (drafted_name draft) re
 
 -- The plan of each change at a destination whose items are whole.
 pub change_plan :
-    (units : ℕ) (b : Batch) (m : Member) (change : MemberItem)
-    → 1 ≤ units → IsItemState units change.state → IsWholeHere units (state_of m.items change.id)
-    → SkipsAll units change.id change.state (state_of m.items change.id) m.items (task_plan units skip_rules b m (Change change))
+    (units : ℕ) (b : Batch) (rules : Rules) (m : Member) (change : MemberItem)
+    → LeavesConflicts rules → 1 ≤ units → IsItemState units change.state → IsWholeHere units (state_of m.items change.id)
+    → SkipsAll units change.id change.state (state_of m.items change.id) m.items (task_plan units rules b m (Change change))
 unfolding task_plan
-change_plan units b m change some whole whole_here =
-    draft_plan units change.id change.state (state_of m.items change.id) m.items
-    (draft_of units skip_rules (class_of units (laid_known units m) b.made_with (forgets_after b m) change (state_of m.items change.id)) (Some change.state) (state_of m.items change.id))
-    (change_draft units (laid_known units m) b.made_with (forgets_after b m) change (state_of m.items change.id) some whole whole_here)
+change_plan units b rules m change skip some whole whole_here =
+    let here : Option ItemState = state_of m.items change.id in
+    let draft : Draft = task_draft units rules b m here (Change change) in
+    subst (λ (r : ClashRule). SkipsAll units change.id change.state here m.items (plan_of units r change.id m.items draft)) (sym skip.clash)
+    (draft_plan units change.id change.state here m.items draft
+    (change_draft units rules (laid_known units m) b.made_with (forgets_after b m) change here skip.keep some whole whole_here))

@@ -4,14 +4,13 @@ use Rattle.std.specs.Prelude.{IfSome, OnErr}
 use Rattle.std.proofs.lemmas.List.{append-nil}
 use Rattle.sfx_model.specs.declared.apply_end.ApplyEnd.{ApplyEnd}
 use Rattle.sfx_model.specs.declared.apply_end.ApplyEnd.TheVariants.{Whole}
-use Rattle.sfx_model.specs.declared.mode.Mode.TheVariants.{Normal}
-use Rattle.sfx_model.specs.Batch.{Batch, IsBatch, IsSent}
+use Rattle.sfx_model.specs.Batch.{Batch}
 use Rattle.sfx_model.specs.Clashes.{Plan}
 use Rattle.sfx_model.specs.Consistent.{IsConsistent}
 use Rattle.sfx_model.specs.Entry.{Change, Entry, after_task, entry_of}
-use Rattle.sfx_model.specs.Members.{ItemState, MemberItem, Member, state_of}
+use Rattle.sfx_model.specs.Members.{MemberItem, Member}
 use Rattle.sfx_model.specs.Moments.{Moment, Applied, Learned, Stopped, committed, divides, stops}
-use Rattle.sfx_model.specs.Rules.{skip_rules}
+use Rattle.sfx_model.specs.Rules.{Rules}
 use Rattle.sfx_model.specs.Session.{AppliedBatch, Outcome, Progress, after_range, applied_batch, finished, go, is_more, lefts, stopped, with_entry}
 use Rattle.sfx_model.specs.Sets.{Has}
 use Rattle.sfx_model.proofs.Sets.{has_left, has_right}
@@ -19,14 +18,11 @@ use Rattle.sfx_provider.specs.Commit.{CommitData, commit_of, committed as laid}
 use Rattle.sfx_provider.specs.Head.{head_of}
 use Rattle.sfx_provider.proofs.Heads.{unchanged_same}
 use Rattle.sfx_provider.specs.Course.{CameInPart}
-use Rattle.sfx_provider.proofs.Commits.{commits_consistent, stored}
-use Rattle.sfx_apply.specs.Turns.{IsKeptIn, WorkData, destination, end_before, is_due, plan_at, state_if, states_if, turned, unless_ended, with_entry_of, with_range_of, work_if}
+use Rattle.sfx_apply.specs.Turns.{IsKeptIn, WorkData, destination, end_before, entered, is_due, plan_at, state_if, states_if, turned, unless_ended, with_range_of, work_if}
 use Rattle.sfx_apply.specs.Work.{KnowsNoMore, Waits}
-use Rattle.sfx_apply.proofs.Drafts.{IsWholeHere}
-use Rattle.sfx_apply.proofs.Fitting.{change_waits, made_waits, none_waits}
+use Rattle.sfx_apply.proofs.Fitting.{made_waits, none_waits}
 use Rattle.sfx_apply.proofs.Groups.{Begins, among_stops, committed_append, committed_front, go_front, go_off, go_on, go_out}
-use Rattle.sfx_apply.proofs.Laying.{change_laid, range_laid}
-use Rattle.sfx_apply.proofs.Plans.{SkipsAll, change_plan}
+use Rattle.sfx_apply.proofs.Laying.{Lays, RangeLays}
 
 -- The progress of the model that the work is, at the provider's state.
 abbrev pub progress : ℕ → Member → WorkData → List Moment → Progress
@@ -35,9 +31,9 @@ progress units m w moments =
 
 -- What is left gives what comes of the batch, and the provider came by what is committed so far. The
 -- moments so far are nowhere in the program.
-pub record Stands (Came : List Member → Type 0) (units : ℕ) (b : Batch) (group : ℕ) (out : Outcome) (m : Member) (w : WorkData) (rest : List MemberItem) : Type 0 where
+pub record Stands (Came : List Member → Type 0) (units : ℕ) (b : Batch) (rules : Rules) (group : ℕ) (out : Outcome) (m : Member) (w : WorkData) (rest : List MemberItem) : Type 0 where
   pub moments : List Moment
-  pub goes : go units b skip_rules (progress units m w moments) (map Change rest) ≡ out
+  pub goes : go units b rules (progress units m w moments) (map Change rest) ≡ out
   pub came : Came (committed group moments)
   pub waits : Waits units w.pending m
   pub no_more : KnowsNoMore units m b
@@ -46,32 +42,19 @@ pub record Stands (Came : List Member → Type 0) (units : ℕ) (b : Batch) (gro
 
 -- A batch begins.
 pub begun :
-    (Came : List Member → Type 0) (units : ℕ) (b : Batch) (group : ℕ) (m : Member) (budget : Option ℕ) (rest : List MemberItem)
+    (Came : List Member → Type 0) (units : ℕ) (b : Batch) (rules : Rules) (group : ℕ) (m : Member) (budget : Option ℕ) (rest : List MemberItem)
     → IsConsistent units m → KnowsNoMore units m b → Came []
-    → Stands Came units b group
-    (go units b skip_rules (record { member = m; entries = []; moments = []; budget = budget }) (map Change rest)) m
+    → Stands Came units b rules group
+    (go units b rules (record { member = m; entries = []; moments = []; budget = budget }) (map Change rest)) m
     (record { pending = commit_of (head_of units m); entries = []; budget = budget }) rest
-begun Came units b group m budget rest good no_more came = record {
+begun Came units b rules group m budget rest good no_more came = record {
   moments = [];
-  goes = ap (λ (n : Member). go units b skip_rules (record { member = n; entries = []; moments = []; budget = budget }) (map Change rest)) (unchanged_same units m good);
+  goes = ap (λ (n : Member). go units b rules (record { member = n; entries = []; moments = []; budget = budget }) (map Change rest)) (unchanged_same units m good);
   came = came;
   waits = none_waits units m good;
   no_more = no_more;
   even = λ more divided. unchanged_same units m good;
 }
-
--- What is known of the plan of a change at the destination.
-pub plan_skips :
-    (units : ℕ) (b : Batch) (change : MemberItem) (w : WorkData) (m : Member)
-    → IsConsistent units m → Waits units w.pending m → IsSent units b change.id change.state
-    → SkipsAll units change.id change.state (state_of (destination units w m).items change.id) (destination units w m).items
-    (plan_at units b change (destination units w m))
-plan_skips units b change w m good waits sent =
-    change_plan units b (destination units w m) change good.some sent.whole (whole (state_of (destination units w m).items change.id) refl)
-  where
-    whole : (o : Option ItemState) → state_of (destination units w m).items change.id ≡ o → IsWholeHere units o
-    whole None e = tt
-    whole (Some own) e = ((commits_consistent units w.pending m good (stored units w.pending m good waits.form) waits.fits).items change.id own e).whole
 
 -- The same destination, before a commit and after it.
 same_destination : (units : ℕ) (due : Bool) (w : WorkData) (m : Member) → destination units (work_if due w) (state_if units due w m) ≡ destination units w m
@@ -129,21 +112,21 @@ one_longer : (xs : List Entry) (x : Entry) → length xs + 1 ≡ length (xs ++ x
 one_longer xs x = omega (arith, length-append xs (x ∷ []))
 
 -- One more entry, and the commit where it is due.
-pub entered :
-    (Came Next : List Member → Type 0) (units : ℕ) (b : Batch) (group : ℕ) (out : Outcome) (m : Member) (w : WorkData)
+pub one_entered :
+    (Came Next : List Member → Type 0) (units : ℕ) (b : Batch) (rules : Rules) (group : ℕ) (out : Outcome) (m : Member) (w : WorkData)
     (change : MemberItem) (rest : List MemberItem)
-    → Stands Came units b group out m w (change ∷ rest)
-    → IsConsistent units m → IsBatch units b → b.mode ≡ Normal → IsSent units b change.id change.state
-    → end_before units b change w m ≡ None
-    → (next : WorkData) → next ≡ with_entry_of units b change (plan_at units b change (destination units w m)) (destination units w m) w
+    → Stands Came units b rules group out m w (change ∷ rest)
+    → IsConsistent units m → Lays units b rules change w m
+    → end_before units b rules change w m ≡ None
+    → (next : WorkData) → next ≡ entered units b rules change w m
     → (due : Bool) → due ≡ (is_more (map Change rest) && divides group (length next.entries))
     → ((made : List Member) → Came made → Next (made ++ states_if units due next m))
-    → Stands Next units b group out (state_if units due next m) (work_if due next) rest
-entered Came Next units b group out m w change rest stands good batch normal sent none next is due due_is on = record {
+    → Stands Next units b rules group out (state_if units due next m) (work_if due next) rest
+one_entered Came Next units b rules group out m w change rest stands good lays none next is due due_is on = record {
   moments = moments;
   goes =
-      ap (λ (p : Progress). go units b skip_rules p (map Change rest)) progress_is
-      ∙ sym (go_on units b skip_rules (progress units m w stands.moments) (Change change) (map Change rest) none)
+      ap (λ (p : Progress). go units b rules p (map Change rest)) progress_is
+      ∙ sym (go_on units b rules (progress units m w stands.moments) (Change change) (map Change rest) none)
       ∙ stands.goes;
   came = subst Next (sym came_is) (on (committed group stands.moments) stands.came);
   waits = waits_if units due next m good waits;
@@ -157,23 +140,16 @@ entered Came Next units b group out m w change rest stands good batch normal sen
     now = destination units w m
 
     plan : Plan
-    plan = plan_at units b change now
+    plan = plan_at units b rules change now
 
     moments : List Moment
     moments = stands.moments ++ Applied (length w.entries + 1) (is_more (map Change rest)) (after_task units b (Change change) plan now) ∷ []
 
-    skips : SkipsAll units change.id change.state (state_of now.items change.id) now.items plan
-    skips = plan_skips units b change w m good stands.waits sent
-
     laid : destination units next m ≡ after_task units b (Change change) plan now
-    laid =
-        ap (λ (x : WorkData). destination units x m) is
-        ∙ change_laid units b change plan w.pending m good stands.waits batch normal skips
+    laid = ap (λ (x : WorkData). destination units x m) is ∙ lays.laid
 
     waits : Waits units next.pending m
-    waits =
-        subst (λ (x : WorkData). Waits units x.pending m) (sym is)
-        (change_waits units b change plan w.pending m good stands.waits batch stands.no_more sent skips)
+    waits = subst (λ (x : WorkData). Waits units x.pending m) (sym is) lays.waits
 
     progress_is :
         progress units (state_if units due next m) (work_if due next) moments
@@ -195,25 +171,25 @@ entered Came Next units b group out m w change rest stands good batch normal sen
 
 -- The same by the words of a turn that did not end the batch.
 pub step_on :
-    (Came Next : List Member → Type 0) (units : ℕ) (b : Batch) (group : ℕ) (out : Outcome) (m n : Member) (w after : WorkData)
+    (Came Next : List Member → Type 0) (units : ℕ) (b : Batch) (rules : Rules) (group : ℕ) (out : Outcome) (m n : Member) (w after : WorkData)
     (change : MemberItem) (rest : List MemberItem) (end : Option ApplyEnd)
-    → Stands Came units b group out m w (change ∷ rest)
-    → IsConsistent units m → IsBatch units b → b.mode ≡ Normal → IsSent units b change.id change.state
-    → end ≡ None → end ≡ end_before units b change w m
-    → n ≡ state_if units (is_due group (is_more (map Change rest)) end (length (turned units b change w m).entries)) (turned units b change w m) m
-    → after ≡ work_if (is_due group (is_more (map Change rest)) end (length (turned units b change w m).entries)) (turned units b change w m)
-    → ((made : List Member) → Came made → Next (made ++ states_if units (is_due group (is_more (map Change rest)) end (length (turned units b change w m).entries)) (turned units b change w m) m))
-    → Stands Next units b group out n after rest
-step_on Came Next units b group out m n w after change rest end stands good batch normal sent none is n_is after_is on =
-    let next : WorkData = turned units b change w m in
-    let due : Bool = is_due group (is_more (map Change rest)) end (length (turned units b change w m).entries) in
-    let next_is : turned units b change w m ≡ with_entry_of units b change (plan_at units b change (destination units w m)) (destination units w m) w =
-    ap (λ (o : Option ApplyEnd). unless_ended o w (with_entry_of units b change (plan_at units b change (destination units w m)) (destination units w m) w)) (sym is ∙ none) in
-    let due_is : is_due group (is_more (map Change rest)) end (length (turned units b change w m).entries) ≡ (is_more (map Change rest) && divides group (length (turned units b change w m).entries)) =
-    ap (λ (o : Option ApplyEnd). is_due group (is_more (map Change rest)) o (length (turned units b change w m).entries)) none in
-    subst (λ (x : Member). Stands Next units b group out x after rest) (sym n_is)
-    (subst (λ (x : WorkData). Stands Next units b group out (state_if units due next m) x rest) (sym after_is)
-    (entered Came Next units b group out m w change rest stands good batch normal sent (sym is ∙ none) (turned units b change w m) next_is due due_is on))
+    → Stands Came units b rules group out m w (change ∷ rest)
+    → IsConsistent units m → Lays units b rules change w m
+    → end ≡ None → end ≡ end_before units b rules change w m
+    → n ≡ state_if units (is_due group (is_more (map Change rest)) end (length (turned units b rules change w m).entries)) (turned units b rules change w m) m
+    → after ≡ work_if (is_due group (is_more (map Change rest)) end (length (turned units b rules change w m).entries)) (turned units b rules change w m)
+    → ((made : List Member) → Came made → Next (made ++ states_if units (is_due group (is_more (map Change rest)) end (length (turned units b rules change w m).entries)) (turned units b rules change w m) m))
+    → Stands Next units b rules group out n after rest
+step_on Came Next units b rules group out m n w after change rest end stands good lays none is n_is after_is on =
+    let next : WorkData = turned units b rules change w m in
+    let due : Bool = is_due group (is_more (map Change rest)) end (length (turned units b rules change w m).entries) in
+    let next_is : turned units b rules change w m ≡ entered units b rules change w m =
+    ap (λ (o : Option ApplyEnd). unless_ended o w (entered units b rules change w m)) (sym is ∙ none) in
+    let due_is : is_due group (is_more (map Change rest)) end (length (turned units b rules change w m).entries) ≡ (is_more (map Change rest) && divides group (length (turned units b rules change w m).entries)) =
+    ap (λ (o : Option ApplyEnd). is_due group (is_more (map Change rest)) o (length (turned units b rules change w m).entries)) none in
+    subst (λ (x : Member). Stands Next units b rules group out x after rest) (sym n_is)
+    (subst (λ (x : WorkData). Stands Next units b rules group out (state_if units due next m) x rest) (sym after_is)
+    (one_entered Came Next units b rules group out m w change rest stands good lays (sym is ∙ none) (turned units b rules change w m) next_is due due_is on))
 
 abbrev pub applied_of : List Entry → ApplyEnd → AppliedBatch
 applied_of entries end = record { entries = entries; end = end }
@@ -236,20 +212,20 @@ one_stopped group n st = by_test (divides group n) refl
 
 -- The batch ends before a change.
 stopping :
-    (Came Next : List Member → Type 0) (units : ℕ) (b : Batch) (group : ℕ) (out : Outcome) (m : Member) (w : WorkData)
+    (Came Next : List Member → Type 0) (units : ℕ) (b : Batch) (rules : Rules) (group : ℕ) (out : Outcome) (m : Member) (w : WorkData)
     (change : MemberItem) (rest : List MemberItem) (end : ApplyEnd)
-    → Stands Came units b group out m w (change ∷ rest)
-    → end_before units b change w m ≡ Some end
+    → Stands Came units b rules group out m w (change ∷ rest)
+    → end_before units b rules change w m ≡ Some end
     → ((made : List Member) → Came made → Next (made ++ states_if units (not (divides group (length w.entries))) w m))
     → Ends Next group out (state_if units (not (divides group (length w.entries))) w m) w.entries end
-stopping Came Next units b group out m w change rest end stands is on = record {
+stopping Came Next units b rules group out m w change rest end stands is on = record {
   state = by_test (divides group (length w.entries)) refl ∙ ap (λ (o : Outcome). o.member) out_is;
   came = subst Next (sym came_is) (on (committed group stands.moments) stands.came);
   report = ap applied_batch out_is;
 }
   where
     out_is : stopped end (progress units m w stands.moments) ≡ out
-    out_is = sym (go_off units b skip_rules (progress units m w stands.moments) (Change change) (map Change rest) end is) ∙ stands.goes
+    out_is = sym (go_off units b rules (progress units m w stands.moments) (Change change) (map Change rest) end is) ∙ stands.goes
 
     by_test : (d : Bool) → divides group (length w.entries) ≡ d → state_if units (not d) w m ≡ destination units w m
     by_test true e = sym (stands.even refl e)
@@ -262,52 +238,49 @@ stopping Came Next units b group out m w change rest end stands is on = record {
         ∙ ap (λ (xs : List Member). committed group stands.moments ++ xs) (one_stopped group (length w.entries) (destination units w m))
 
 pub step_off :
-    (Came Next : List Member → Type 0) (units : ℕ) (b : Batch) (group : ℕ) (out : Outcome) (m n : Member) (w after : WorkData)
+    (Came Next : List Member → Type 0) (units : ℕ) (b : Batch) (rules : Rules) (group : ℕ) (out : Outcome) (m n : Member) (w after : WorkData)
     (change : MemberItem) (rest : List MemberItem) (end : Option ApplyEnd) (how : ApplyEnd)
-    → Stands Came units b group out m w (change ∷ rest)
-    → end ≡ Some how → end ≡ end_before units b change w m
-    → n ≡ state_if units (is_due group (is_more (map Change rest)) end (length (turned units b change w m).entries)) (turned units b change w m) m
-    → after ≡ work_if (is_due group (is_more (map Change rest)) end (length (turned units b change w m).entries)) (turned units b change w m)
-    → ((made : List Member) → Came made → Next (made ++ states_if units (is_due group (is_more (map Change rest)) end (length (turned units b change w m).entries)) (turned units b change w m) m))
+    → Stands Came units b rules group out m w (change ∷ rest)
+    → end ≡ Some how → end ≡ end_before units b rules change w m
+    → n ≡ state_if units (is_due group (is_more (map Change rest)) end (length (turned units b rules change w m).entries)) (turned units b rules change w m) m
+    → after ≡ work_if (is_due group (is_more (map Change rest)) end (length (turned units b rules change w m).entries)) (turned units b rules change w m)
+    → ((made : List Member) → Came made → Next (made ++ states_if units (is_due group (is_more (map Change rest)) end (length (turned units b rules change w m).entries)) (turned units b rules change w m) m))
     → Ends Next group out n after.entries how
-step_off Came Next units b group out m n w after change rest end how stands some is n_is after_is on =
-    let next_is : turned units b change w m ≡ w =
-    ap (λ (o : Option ApplyEnd). unless_ended o w (with_entry_of units b change (plan_at units b change (destination units w m)) (destination units w m) w)) (sym is ∙ some) in
-    let due_is : is_due group (is_more (map Change rest)) end (length (turned units b change w m).entries) ≡ not (divides group (length w.entries)) =
-    ap (λ (o : Option ApplyEnd). is_due group (is_more (map Change rest)) o (length (turned units b change w m).entries)) some
+step_off Came Next units b rules group out m n w after change rest end how stands some is n_is after_is on =
+    let next_is : turned units b rules change w m ≡ w =
+    ap (λ (o : Option ApplyEnd). unless_ended o w (entered units b rules change w m)) (sym is ∙ some) in
+    let due_is : is_due group (is_more (map Change rest)) end (length (turned units b rules change w m).entries) ≡ not (divides group (length w.entries)) =
+    ap (λ (o : Option ApplyEnd). is_due group (is_more (map Change rest)) o (length (turned units b rules change w m).entries)) some
     ∙ ap (λ (x : WorkData). not (divides group (length x.entries))) next_is in
     let ends : Ends Next group out (state_if units (not (divides group (length w.entries))) w m) w.entries how =
-    stopping Came Next units b group out m w change rest how stands (sym is ∙ some)
+    stopping Came Next units b rules group out m w change rest how stands (sym is ∙ some)
     (λ made came. subst (λ (x : WorkData). Next (made ++ states_if units (not (divides group (length w.entries))) x m)) next_is
-    (subst (λ (d : Bool). Next (made ++ states_if units d (turned units b change w m) m)) due_is (on made came))) in
+    (subst (λ (d : Bool). Next (made ++ states_if units d (turned units b rules change w m) m)) due_is (on made came))) in
     let state_is : n ≡ state_if units (not (divides group (length w.entries))) w m =
-    n_is ∙ ap (λ (d : Bool). state_if units d (turned units b change w m) m) due_is
+    n_is ∙ ap (λ (d : Bool). state_if units d (turned units b rules change w m) m) due_is
     ∙ ap (λ (x : WorkData). state_if units (not (divides group (length w.entries))) x m) next_is in
     let entries_is : after.entries ≡ w.entries =
     ap (λ (x : WorkData). x.entries) after_is
-    ∙ same_entries (is_due group (is_more (map Change rest)) end (length (turned units b change w m).entries)) (turned units b change w m)
+    ∙ same_entries (is_due group (is_more (map Change rest)) end (length (turned units b rules change w m).entries)) (turned units b rules change w m)
     ∙ ap (λ (x : WorkData). x.entries) next_is in
     subst (λ (x : Member). Ends Next group out x after.entries how) (sym state_is)
     (subst (λ (es : List Entry). Ends Next group out (state_if units (not (divides group (length w.entries))) w m) es how) (sym entries_is) ends)
 
 -- Nothing is left: the range is learned.
 pub finishing :
-    (Came Next : List Member → Type 0) (units : ℕ) (b : Batch) (group : ℕ) (out : Outcome) (m : Member) (w : WorkData)
-    → Stands Came units b group out m w []
-    → IsConsistent units m → IsBatch units b → b.mode ≡ Normal
+    (Came Next : List Member → Type 0) (units : ℕ) (b : Batch) (rules : Rules) (group : ℕ) (out : Outcome) (m : Member) (w : WorkData)
+    → Stands Came units b rules group out m w []
+    → RangeLays units b w m
     → ((made : List Member) → Came made → Next (made ++ destination units (with_range_of units b w) m ∷ []))
     → Ends Next group out (destination units (with_range_of units b w) m) w.entries Whole
-finishing Came Next units b group out m w stands good batch normal on = record {
+finishing Came Next units b rules group out m w stands laid on = record {
   state = laid ∙ ap (λ (o : Outcome). o.member) out_is;
   came = subst Next (sym came_is) (on (committed group stands.moments) stands.came);
   report = ap applied_batch out_is;
 }
   where
     out_is : finished units b (progress units m w stands.moments) ≡ out
-    out_is = sym (go_out units b skip_rules (progress units m w stands.moments)) ∙ stands.goes
-
-    laid : destination units (with_range_of units b w) m ≡ after_range units b (lefts w.entries) (destination units w m)
-    laid = range_laid units b (lefts w.entries) w.pending m good stands.waits batch normal
+    out_is = sym (go_out units b rules (progress units m w stands.moments)) ∙ stands.goes
 
     came_is : committed group out.moments ≡ committed group stands.moments ++ destination units (with_range_of units b w) m ∷ []
     came_is =
@@ -322,10 +295,10 @@ pub record Part (before step all : List Member) : Type 0 where
 
 -- The same where the provider came by other lists.
 coming :
-    (Came Next : List Member → Type 0) (units : ℕ) (b : Batch) (group : ℕ) (out : Outcome) (m : Member) (w : WorkData) (rest : List MemberItem)
-    → (stands : Stands Came units b group out m w rest) → Next (committed group stands.moments)
-    → Stands Next units b group out m w rest
-coming Came Next units b group out m w rest stands came = record {
+    (Came Next : List Member → Type 0) (units : ℕ) (b : Batch) (rules : Rules) (group : ℕ) (out : Outcome) (m : Member) (w : WorkData) (rest : List MemberItem)
+    → (stands : Stands Came units b rules group out m w rest) → Next (committed group stands.moments)
+    → Stands Next units b rules group out m w rest
+coming Came Next units b rules group out m w rest stands came = record {
   moments = stands.moments;
   goes = stands.goes;
   came = came;
@@ -351,56 +324,56 @@ nothing_behind before step all is = record {
 
 -- Those of a turn.
 pub turn_part :
-    (Came : List Member → Type 0) (units : ℕ) (b : Batch) (group : ℕ) (out : Outcome) (m : Member) (w : WorkData)
+    (Came : List Member → Type 0) (units : ℕ) (b : Batch) (rules : Rules) (group : ℕ) (out : Outcome) (m : Member) (w : WorkData)
     (change : MemberItem) (rest : List MemberItem)
-    → (stands : Stands Came units b group out m w (change ∷ rest))
-    → IsConsistent units m → IsBatch units b → b.mode ≡ Normal → IsSent units b change.id change.state
+    → (stands : Stands Came units b rules group out m w (change ∷ rest))
+    → IsConsistent units m → Lays units b rules change w m
     → Part (committed group stands.moments)
-    (states_if units (is_due group (is_more (map Change rest)) (end_before units b change w m) (length (turned units b change w m).entries)) (turned units b change w m) m)
+    (states_if units (is_due group (is_more (map Change rest)) (end_before units b rules change w m) (length (turned units b rules change w m).entries)) (turned units b rules change w m) m)
     (committed group out.moments)
-turn_part Came units b group out m w change rest stands good batch normal sent = by_end (end_before units b change w m) refl
+turn_part Came units b rules group out m w change rest stands good lays = by_end (end_before units b rules change w m) refl
   where
     before : List Member
     before = committed group stands.moments
 
     step : List Member
-    step = states_if units (is_due group (is_more (map Change rest)) (end_before units b change w m) (length (turned units b change w m).entries)) (turned units b change w m) m
+    step = states_if units (is_due group (is_more (map Change rest)) (end_before units b rules change w m) (length (turned units b rules change w m).entries)) (turned units b rules change w m) m
 
     due : Bool
-    due = is_due group (is_more (map Change rest)) (end_before units b change w m) (length (turned units b change w m).entries)
+    due = is_due group (is_more (map Change rest)) (end_before units b rules change w m) (length (turned units b rules change w m).entries)
 
     later_state : Member
-    later_state = state_if units due (turned units b change w m) m
+    later_state = state_if units due (turned units b rules change w m) m
 
     later_work : WorkData
-    later_work = work_if due (turned units b change w m)
+    later_work = work_if due (turned units b rules change w m)
 
-    alone : Stands (λ made. made ≡ committed group stands.moments) units b group out m w (change ∷ rest)
-    alone = coming Came (λ made. made ≡ committed group stands.moments) units b group out m w (change ∷ rest) stands refl
+    alone : Stands (λ made. made ≡ committed group stands.moments) units b rules group out m w (change ∷ rest)
+    alone = coming Came (λ made. made ≡ committed group stands.moments) units b rules group out m w (change ∷ rest) stands refl
 
-    by_end : (o : Option ApplyEnd) → end_before units b change w m ≡ o → Part before step (committed group out.moments)
+    by_end : (o : Option ApplyEnd) → end_before units b rules change w m ≡ o → Part before step (committed group out.moments)
     by_end None e =
-        let later = step_on (λ made. made ≡ before) (λ made. made ≡ before ++ step) units b group out m later_state w later_work change rest (end_before units b change w m)
-        alone good batch normal sent e refl refl refl (λ made is. ap (λ (xs : List Member). xs ++ step) is) in
+        let later = step_on (λ made. made ≡ before) (λ made. made ≡ before ++ step) units b rules group out m later_state w later_work change rest (end_before units b rules change w m)
+        alone good lays e refl refl refl (λ made is. ap (λ (xs : List Member). xs ++ step) is) in
         let begins : Begins later.moments out.moments =
-        subst (λ (o : Outcome). Begins later.moments o.moments) later.goes (go_front units b skip_rules (progress units later_state later_work later.moments) (map Change rest)) in
+        subst (λ (o : Outcome). Begins later.moments o.moments) later.goes (go_front units b rules (progress units later_state later_work later.moments) (map Change rest)) in
         front_of before step (committed group out.moments) group later.moments out.moments begins later.came refl
     by_end (Some how) e =
-        let ends = step_off (λ made. made ≡ before) (λ made. made ≡ before ++ step) units b group out m later_state w later_work change rest (end_before units b change w m) how
+        let ends = step_off (λ made. made ≡ before) (λ made. made ≡ before ++ step) units b rules group out m later_state w later_work change rest (end_before units b rules change w m) how
         alone e refl refl refl (λ made is. ap (λ (xs : List Member). xs ++ step) is) in
         nothing_behind before step (committed group out.moments) ends.came
 
 -- That of the range.
 pub range_part :
-    (Came : List Member → Type 0) (units : ℕ) (b : Batch) (group : ℕ) (out : Outcome) (m : Member) (w : WorkData)
-    → (stands : Stands Came units b group out m w [])
-    → IsConsistent units m → IsBatch units b → b.mode ≡ Normal
+    (Came : List Member → Type 0) (units : ℕ) (b : Batch) (rules : Rules) (group : ℕ) (out : Outcome) (m : Member) (w : WorkData)
+    → (stands : Stands Came units b rules group out m w [])
+    → RangeLays units b w m
     → Part (committed group stands.moments) (destination units (with_range_of units b w) m ∷ []) (committed group out.moments)
-range_part Came units b group out m w stands good batch normal =
+range_part Came units b rules group out m w stands laid =
     let before : List Member = committed group stands.moments in
     let last : List Member = destination units (with_range_of units b w) m ∷ [] in
-    let ends = finishing (λ made. made ≡ before) (λ made. made ≡ before ++ last) units b group out m w
-    (coming Came (λ made. made ≡ before) units b group out m w [] stands refl) good batch normal
+    let ends = finishing (λ made. made ≡ before) (λ made. made ≡ before ++ last) units b rules group out m w
+    (coming Came (λ made. made ≡ before) units b rules group out m w [] stands refl) laid
     (λ made is. ap (λ (xs : List Member). xs ++ last) is) in
     nothing_behind before last (committed group out.moments) ends.came
 

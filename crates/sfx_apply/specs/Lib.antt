@@ -1,3 +1,4 @@
+pub mod Rules
 pub mod Work
 pub mod Turns
 pub mod Fault

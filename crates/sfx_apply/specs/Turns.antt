@@ -14,7 +14,7 @@ use Rattle.sfx_model.specs.Items.{item_view}
 use Rattle.sfx_model.specs.Members.{ItemState, MemberItem, Member, state_of}
 use Rattle.sfx_model.specs.Moments.{divides}
 use Rattle.sfx_model.specs.NewName.{is_free}
-use Rattle.sfx_model.specs.Rules.{skip_rules}
+use Rattle.sfx_model.specs.Rules.{Rules}
 use Rattle.sfx_model.specs.Session.{is_live_state, lefts, reduced, stop_before}
 use Rattle.sfx_model.specs.Sets.{Has}
 use Rattle.sfx_provider.specs.Commit.{CommitData, commit_of, committed}
@@ -40,14 +40,14 @@ in_turn changes = filter (λ x. not (is_live_state x.state)) changes ++ filter (
 abbrev pub seen_views : {U : ℕ} → List (Bor (Item U)) → List MemberItem
 seen_views turns = map (λ x. item_view x.now) turns
 
--- What is to be done with the change at the destination, where conflicts are skipped.
-abbrev pub plan_at : ℕ → Batch → MemberItem → Member → Plan
-plan_at units b change m = task_plan units skip_rules b m (Change change)
+-- What is to be done with the change at the destination.
+abbrev pub plan_at : ℕ → Batch → Rules → MemberItem → Member → Plan
+plan_at units b rules change m = task_plan units rules b m (Change change)
 
 -- The draft of a change at the destination, by what waits to be committed.
-abbrev pub draft_now : ℕ → Batch → CommitData → MemberItem → Option ItemState → Draft
-draft_now units b c change here =
-    draft_of units skip_rules (class_of units c.knowledge b.made_with c.forgotten change here) (Some change.state) here
+abbrev pub draft_now : ℕ → Batch → Rules → CommitData → MemberItem → Option ItemState → Draft
+draft_now units b rules c change here =
+    draft_of units rules (class_of units c.knowledge b.made_with c.forgotten change here) (Some change.state) here
 
 -- Whether there is no name, or one that is free among the items for the one with this id.
 abbrev pub is_free_or_none : List MemberItem → ItemId → Option (List ℕ) → Bool
@@ -67,19 +67,23 @@ abbrev pub destination : ℕ → WorkData → Member → Member
 destination units w m = committed units w.pending m
 
 -- How the batch ends before the change, if it does.
-abbrev pub end_before : ℕ → Batch → MemberItem → WorkData → Member → Option ApplyEnd
-end_before units b change w m = stop_before w.budget (plan_at units b change (destination units w m)) (destination units w m)
+abbrev pub end_before : ℕ → Batch → Rules → MemberItem → WorkData → Member → Option ApplyEnd
+end_before units b rules change w m =
+    stop_before w.budget (plan_at units b rules change (destination units w m)) (destination units w m)
 
 -- The work as it was where the batch ends, and else the other.
 abbrev pub unless_ended : Option ApplyEnd → WorkData → WorkData → WorkData
 unless_ended (Some end) w next = w
 unless_ended None w next = next
 
+-- The work with the entry of a change, by what is to be done with it at the destination.
+abbrev pub entered : ℕ → Batch → Rules → MemberItem → WorkData → Member → WorkData
+entered units b rules change w m =
+    with_entry_of units b change (plan_at units b rules change (destination units w m)) (destination units w m) w
+
 -- The work after the turn of a change.
-abbrev pub turned : ℕ → Batch → MemberItem → WorkData → Member → WorkData
-turned units b change w m =
-    unless_ended (end_before units b change w m) w
-    (with_entry_of units b change (plan_at units b change (destination units w m)) (destination units w m) w)
+abbrev pub turned : ℕ → Batch → Rules → MemberItem → WorkData → Member → WorkData
+turned units b rules change w m = unless_ended (end_before units b rules change w m) w (entered units b rules change w m)
 
 -- The work with the batch's range, but for the units that the entries left alone.
 abbrev pub with_range_of : ℕ → Batch → WorkData → WorkData
@@ -92,8 +96,9 @@ is_due group more None count = more && divides group count
 is_due group more (Some end) count = not (divides group count)
 
 -- Whether one is due after the turn of a change; `more` tells whether further ones are left.
-abbrev pub due_after : ℕ → ℕ → Batch → MemberItem → Bool → WorkData → Member → Bool
-due_after units group b change more w m = is_due group more (end_before units b change w m) (length (turned units b change w m).entries)
+abbrev pub due_after : ℕ → ℕ → Batch → Rules → MemberItem → Bool → WorkData → Member → Bool
+due_after units group b rules change more w m =
+    is_due group more (end_before units b rules change w m) (length (turned units b rules change w m).entries)
 
 -- The provider's state, the states that it came by and the work after the commit that is made where one
 -- is due.
@@ -108,6 +113,20 @@ emptied w = record { pending = cleared w.pending; entries = w.entries; budget = 
 
 abbrev pub work_if : Bool → WorkData → WorkData
 work_if due w = if due then emptied w else w
+
+-- The work, the provider's state and the states that it came by after the turn of a change and the commit
+-- that follows; `more` tells whether further ones are left.
+abbrev pub next_work : ℕ → ℕ → Batch → Rules → MemberItem → Bool → WorkData → Member → WorkData
+next_work units group b rules change more w m =
+    work_if (due_after units group b rules change more w m) (turned units b rules change w m)
+
+abbrev pub next_state : ℕ → ℕ → Batch → Rules → MemberItem → Bool → WorkData → Member → Member
+next_state units group b rules change more w m =
+    state_if units (due_after units group b rules change more w m) (turned units b rules change w m) m
+
+abbrev pub next_states : ℕ → ℕ → Batch → Rules → MemberItem → Bool → WorkData → Member → List Member
+next_states units group b rules change more w m =
+    states_if units (due_after units group b rules change more w m) (turned units b rules change w m) m
 
 -- The kept state, where it is told, is one of these.
 abbrev pub IsKeptIn : Option Member → List Member → Type 0

@@ -1,5 +1,6 @@
 ghost use Rattle.std.specs.Prelude.{◌≡◌, ◌≤◌, IfOk, IfSome, IsSome, OnOk, OnErr};
 ghost use Rattle.sfx_apply.specs.Fault.{HasCause, IsNotAhead, TellsAhead, Untouched};
+ghost use Rattle.sfx_apply.specs.Rules.{LeavesConflicts};
 ghost use Rattle.sfx_apply.specs.Turns.{IsKeptIn, in_turn, seen_views, work_begun};
 ghost use Rattle.sfx_apply.specs.Work.{KnowsNoMore, Waits};
 ghost use Rattle.sfx_model.specs.Acting.{Brings, DeedsActIn, IsOrderly};
@@ -7,13 +8,13 @@ ghost use Rattle.sfx_model.specs.Deeds.{batch_deeds};
 ghost use Rattle.sfx_model.specs.Knowing.{ahead_of};
 ghost use Rattle.sfx_model.specs.Members.{Member};
 ghost use Rattle.sfx_model.specs.Moments.{committed, stops};
-ghost use Rattle.sfx_model.specs.Rules.{skip_rules};
 ghost use Rattle.sfx_model.specs.Session.{applied, applied_batch};
 ghost use Rattle.sfx_model.specs.World.{World};
 ghost use Rattle.sfx_model.specs.declared.mode.Mode.TheVariants.{Normal};
 ghost use Rattle.sfx_provider.specs.Course.{CameInPart};
 ghost use Rattle.sfx_provider.specs.Fault.{HasCause as HasProviderCause};
 ghost use Rattle.sfx_provider.specs.Head.{head_of};
+ghost use Rattle.sfx_settle.specs.Rules.{rules_view};
 
 use crate::ordering::in_turn;
 use crate::stepping::{change_step, range_step};
@@ -23,10 +24,11 @@ use sfx_batch::Batch;
 use sfx_item::Item;
 use sfx_model::ApplyEnd;
 use sfx_provider::{Head, Provider, ProviderFault};
+use sfx_settle::{Merger, Rules};
 use std::alloc::Global;
 
-/// Applies a batch to the replica of a provider, where conflicts are skipped: what the source sent is brought,
-/// change by change, and then the destination knows of the batch's range what the source knows, but for the
+/// Applies a batch to the replica of a provider by these rules: what the source sent is brought, change by
+/// change, and then the destination knows of the batch's range what the source knows, but for the
 /// units that were left alone. The deletions come first, and then the live changes, each in order of their
 /// ids; each is judged by what the replica holds at that moment. What was done is told, entry by entry.
 ///
@@ -46,30 +48,43 @@ use std::alloc::Global;
 ///   `tick` is the greatest one. Nothing has changed then.
 /// - `Provider`, only where the provider's count of faults rose, and `Memory`. The commits that were made
 ///   stand, and the next one may have broken off.
-pub fn apply_batch<const U: usize, P: Provider<U>>(
+pub fn apply_batch<const U: usize, P: Provider<U>, M: Merger>(
     alloc: Global,
     provider: &mut P,
     batch: &Batch<U>,
+    rules: &Rules<M>,
     group: u64,
     budget: Option<u64>,
 ) -> Result<Applied<U>, ApplyFault>
     requires told { IfSome (P.kept provider.old) (λ k. k ≡ P.state provider.old) }
+    requires skip { LeavesConflicts (rules_view M.meaning rules.now) }
     requires normal { batch.now.mode ≡ Normal }
     requires group { 1 ≤ group }
-    ensures report { IfOk result (λ a. a ≡ applied_batch (applied U batch.now skip_rules budget (P.state provider.old))) }
-    ensures state { OnOk result (P.state provider.new ≡ (applied U batch.now skip_rules budget (P.state provider.old)).member) }
+    ensures report { let o = applied U batch.now (rules_view M.meaning rules.now) budget (P.state provider.old) in
+        IfOk result (λ a. a ≡ applied_batch o) }
+    ensures state { let o = applied U batch.now (rules_view M.meaning rules.now) budget (P.state provider.old) in
+        OnOk result (P.state provider.new ≡ o.member) }
     ensures told { OnOk result (IfSome (P.kept provider.new) (λ k. k ≡ P.state provider.new)) }
-    ensures came { OnOk result (P.came provider.old provider.new (committed group (applied U batch.now skip_rules budget (P.state provider.old)).moments)) }
-    ensures fault { OnErr result (CameInPart P.came P.broke provider.old provider.new (committed group (applied U batch.now skip_rules budget (P.state provider.old)).moments)) }
-    ensures kept { OnErr result (IsKeptIn (P.kept provider.new) (stops group (P.state provider.old) (applied U batch.now skip_rules budget (P.state provider.old)).moments)) }
-    ensures acts { OnOk result ((w : World) (source : Member) → Brings w U source (P.state provider.old) batch.now → DeedsActIn w (batch_deeds U batch.now skip_rules budget (P.state provider.old)) source (P.state provider.old).id (P.state provider.new)) }
-    ensures ahead { TellsAhead (ahead_of (P.state provider.old) batch.now.made_with batch.now.forgotten) (P.state provider.old).clock result }
-    ensures not_ahead { (w : World) (source : Member) → Brings w U source (P.state provider.old) batch.now → IsNotAhead result }
-    ensures untouched { IsSome (ahead_of (P.state provider.old) batch.now.made_with batch.now.forgotten) → Untouched P.state P.kept P.came provider.old provider.new }
+    ensures came { let o = applied U batch.now (rules_view M.meaning rules.now) budget (P.state provider.old) in
+        OnOk result (P.came provider.old provider.new (committed group o.moments)) }
+    ensures fault { let o = applied U batch.now (rules_view M.meaning rules.now) budget (P.state provider.old) in
+        OnErr result (CameInPart P.came P.broke provider.old provider.new (committed group o.moments)) }
+    ensures kept { let o = applied U batch.now (rules_view M.meaning rules.now) budget (P.state provider.old) in
+        OnErr result (IsKeptIn (P.kept provider.new) (stops group (P.state provider.old) o.moments)) }
+    ensures acts { let m = P.state provider.old in
+        let deeds = batch_deeds U batch.now (rules_view M.meaning rules.now) budget m in
+        OnOk result ((w : World) (source : Member) → Brings w U source m batch.now →
+        DeedsActIn w deeds source m.id (P.state provider.new)) }
+    ensures ahead { let m = P.state provider.old in
+        TellsAhead (ahead_of m batch.now.made_with batch.now.forgotten) m.clock result }
+    ensures not_ahead { (w : World) (source : Member) → Brings w U source (P.state provider.old) batch.now →
+        IsNotAhead result }
+    ensures untouched { IsSome (ahead_of (P.state provider.old) batch.now.made_with batch.now.forgotten) →
+        Untouched P.state P.kept P.came provider.old provider.new }
     ensures cause { HasCause (P.faults provider.old) (P.faults provider.new) result }
 {
     let work = begin(alloc, provider, batch, budget)?;
-    match apply_changes(alloc, provider, batch, group, work) {
+    match apply_changes(alloc, provider, batch, rules, group, work) {
         Ok(applied) => Ok(applied),
         Err(ProviderFault::Failed) => Err(ApplyFault::Provider),
         Err(ProviderFault::Memory) => Err(ApplyFault::Memory),
@@ -93,7 +108,8 @@ fn begin<const U: usize, P: Provider<U>>(
     ensures waits { IfOk result (λ work. Waits U work.pending (P.state provider.new)) }
     ensures no_more { OnOk result (KnowsNoMore U (P.state provider.new) batch.now) }
     ensures orderly { OnOk result (IsOrderly U (P.state provider.old)) }
-    ensures ahead { TellsAhead (ahead_of (P.state provider.old) batch.now.made_with batch.now.forgotten) (P.state provider.old).clock result }
+    ensures ahead { let m = P.state provider.old in
+        TellsAhead (ahead_of m batch.now.made_with batch.now.forgotten) m.clock result }
     ensures told { IfSome (P.kept provider.new) (λ k. k ≡ P.state provider.new) }
     ensures untouched { Untouched P.state P.kept P.came provider.old provider.new }
     ensures cause { HasCause (P.faults provider.old) (P.faults provider.new) result }
@@ -135,60 +151,92 @@ fn head_of<const U: usize, P: Provider<U>>(
 }
 
 /// Applies the changes of a batch, the deletions first and then the live ones, and learns the batch's range.
-fn apply_changes<const U: usize, P: Provider<U>>(
+fn apply_changes<const U: usize, P: Provider<U>, M: Merger>(
     alloc: Global,
     provider: &mut P,
     batch: &Batch<U>,
+    rules: &Rules<M>,
     group: u64,
     mut work: Work<U>,
 ) -> Result<Applied<U>, ProviderFault>
     requires told { IfSome (P.kept provider.old) (λ k. k ≡ P.state provider.old) }
+    requires skip { LeavesConflicts (rules_view M.meaning rules.now) }
     requires normal { batch.now.mode ≡ Normal }
     requires no_more { KnowsNoMore U (P.state provider.old) batch.now }
     requires group { 1 ≤ group }
     requires begun { work ≡ work_begun U work.budget (P.state provider.old) }
-    ensures report { IfOk result (λ a. a ≡ applied_batch (applied U batch.now skip_rules work.entry.budget (P.state provider.old))) }
-    ensures state { OnOk result (P.state provider.new ≡ (applied U batch.now skip_rules work.entry.budget (P.state provider.old)).member) }
+    ensures report { let rules = rules_view M.meaning rules.now in
+        let out = applied U batch.now rules work.entry.budget (P.state provider.old) in
+        IfOk result (λ a. a ≡ applied_batch out) }
+    ensures state { let rules = rules_view M.meaning rules.now in
+        let out = applied U batch.now rules work.entry.budget (P.state provider.old) in
+        OnOk result (P.state provider.new ≡ out.member) }
     ensures told { OnOk result (IfSome (P.kept provider.new) (λ k. k ≡ P.state provider.new)) }
-    ensures came { OnOk result (P.came provider.old provider.new (committed group (applied U batch.now skip_rules work.entry.budget (P.state provider.old)).moments)) }
-    ensures fault { OnErr result (CameInPart P.came P.broke provider.old provider.new (committed group (applied U batch.now skip_rules work.entry.budget (P.state provider.old)).moments)) }
-    ensures kept { OnErr result (IsKeptIn (P.kept provider.new) (stops group (P.state provider.old) (applied U batch.now skip_rules work.entry.budget (P.state provider.old)).moments)) }
+    ensures came { let rules = rules_view M.meaning rules.now in
+        let out = applied U batch.now rules work.entry.budget (P.state provider.old) in
+        OnOk result (P.came provider.old provider.new (committed group out.moments)) }
+    ensures fault { let rules = rules_view M.meaning rules.now in
+        let out = applied U batch.now rules work.entry.budget (P.state provider.old) in
+        OnErr result (CameInPart P.came P.broke provider.old provider.new (committed group out.moments)) }
+    ensures kept { let rules = rules_view M.meaning rules.now in
+        let out = applied U batch.now rules work.entry.budget (P.state provider.old) in
+        OnErr result (IsKeptIn (P.kept provider.new) (stops group (P.state provider.old) out.moments)) }
     ensures cause { HasProviderCause (P.faults provider.old) (P.faults provider.new) result }
 {
     provider.keeps();
     let turns = in_turn(alloc, batch)?;
-    let end = apply_turns(alloc, provider, batch, turns.as_slice(), group, &mut work)?;
+    let end = apply_turns(
+        alloc,
+        provider,
+        batch,
+        rules,
+        turns.as_slice(),
+        group,
+        &mut work,
+    )?;
     Ok(done(work, end))
 }
 
 /// Applies the changes of a batch in these turns, learns the batch's range, and tells how the batch ended.
-fn apply_turns<const U: usize, P: Provider<U>>(
+fn apply_turns<const U: usize, P: Provider<U>, M: Merger>(
     alloc: Global,
     provider: &mut P,
     batch: &Batch<U>,
+    rules: &Rules<M>,
     turns: &[&Item<U>],
     group: u64,
     work: &mut Work<U>,
 ) -> Result<ApplyEnd, ProviderFault>
     requires told { IfSome (P.kept provider.old) (λ k. k ≡ P.state provider.old) }
+    requires skip { LeavesConflicts (rules_view M.meaning rules.now) }
     requires normal { batch.now.mode ≡ Normal }
     requires no_more { KnowsNoMore U (P.state provider.old) batch.now }
     requires order { seen_views turns.now ≡ in_turn batch.now.changes }
     requires group { 1 ≤ group }
     requires begun { work.old ≡ work_begun U work.old.budget (P.state provider.old) }
-    ensures report { IfOk result (λ end. record { entries = work.new.entries; end = end } ≡ applied_batch (applied U batch.now skip_rules work.old.budget (P.state provider.old))) }
-    ensures state { OnOk result (P.state provider.new ≡ (applied U batch.now skip_rules work.old.budget (P.state provider.old)).member) }
+    ensures report { let rules = rules_view M.meaning rules.now in
+        let out = applied U batch.now rules work.old.budget (P.state provider.old) in
+        IfOk result (λ end. record { entries = work.new.entries; end = end } ≡ applied_batch out) }
+    ensures state { let rules = rules_view M.meaning rules.now in
+        let out = applied U batch.now rules work.old.budget (P.state provider.old) in
+        OnOk result (P.state provider.new ≡ out.member) }
     ensures told { OnOk result (IfSome (P.kept provider.new) (λ k. k ≡ P.state provider.new)) }
-    ensures came { OnOk result (P.came provider.old provider.new (committed group (applied U batch.now skip_rules work.old.budget (P.state provider.old)).moments)) }
-    ensures fault { OnErr result (CameInPart P.came P.broke provider.old provider.new (committed group (applied U batch.now skip_rules work.old.budget (P.state provider.old)).moments)) }
-    ensures kept { OnErr result (IsKeptIn (P.kept provider.new) (stops group (P.state provider.old) (applied U batch.now skip_rules work.old.budget (P.state provider.old)).moments)) }
+    ensures came { let rules = rules_view M.meaning rules.now in
+        let out = applied U batch.now rules work.old.budget (P.state provider.old) in
+        OnOk result (P.came provider.old provider.new (committed group out.moments)) }
+    ensures fault { let rules = rules_view M.meaning rules.now in
+        let out = applied U batch.now rules work.old.budget (P.state provider.old) in
+        OnErr result (CameInPart P.came P.broke provider.old provider.new (committed group out.moments)) }
+    ensures kept { let rules = rules_view M.meaning rules.now in
+        let out = applied U batch.now rules work.old.budget (P.state provider.old) in
+        OnErr result (IsKeptIn (P.kept provider.new) (stops group (P.state provider.old) out.moments)) }
     ensures cause { HasProviderCause (P.faults provider.old) (P.faults provider.new) result }
 {
     batch.keeps();
     provider.keeps();
     'changes: for (index, change) in turns.iter().enumerate() {
         let more = index + 1 < turns.len();
-        if let Some(end) = change_step(alloc, provider, work, batch, change, group, more)? {
+        if let Some(end) = change_step(alloc, provider, work, batch, rules, change, group, more)? {
             return Ok(end);
         }
     }

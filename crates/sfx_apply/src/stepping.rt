@@ -1,6 +1,7 @@
 //! The steps of a batch: the changes, and the range at its end, each with the commit that follows.
 ghost use Rattle.std.specs.Prelude.{◌≡◌, ◌≤◌, ◌∷◌, [], length, IfOk, IfSome, OnOk, OnErr};
-ghost use Rattle.sfx_apply.specs.Turns.{IsKeptIn, destination, due_after, end_before, is_due, state_if, states_if, turned, with_range_of, work_if};
+ghost use Rattle.sfx_apply.specs.Rules.{LeavesConflicts};
+ghost use Rattle.sfx_apply.specs.Turns.{IsKeptIn, destination, end_before, is_due, next_state, next_states, next_work, with_range_of};
 ghost use Rattle.sfx_apply.specs.Work.{KnowsNoMore, Waits};
 ghost use Rattle.sfx_model.specs.Batch.{IsSent};
 ghost use Rattle.sfx_model.specs.Consistent.{IsConsistent};
@@ -8,6 +9,7 @@ ghost use Rattle.sfx_model.specs.Items.{item_view, state_view};
 ghost use Rattle.sfx_model.specs.declared.mode.Mode.TheVariants.{Normal};
 ghost use Rattle.sfx_provider.specs.Course.{CameInPart};
 ghost use Rattle.sfx_provider.specs.Fault.{HasCause};
+ghost use Rattle.sfx_settle.specs.Rules.{rules_view};
 
 use crate::committing::commit_if;
 use crate::turn::turn;
@@ -16,35 +18,50 @@ use sfx_batch::Batch;
 use sfx_item::Item;
 use sfx_model::ApplyEnd;
 use sfx_provider::{Provider, ProviderFault};
+use sfx_settle::{Merger, Rules};
 use std::alloc::Global;
 
 /// A change in its turn, and the commit where one is due; `more` tells whether further changes are left.
-pub(crate) fn change_step<const U: usize, P: Provider<U>>(
+pub(crate) fn change_step<const U: usize, P: Provider<U>, M: Merger>(
     alloc: Global,
     provider: &mut P,
     work: &mut Work<U>,
     batch: &Batch<U>,
+    rules: &Rules<M>,
     change: &Item<U>,
     group: u64,
     more: bool,
 ) -> Result<Option<ApplyEnd>, ProviderFault>
     requires told { IfSome (P.kept provider.old) (λ k. k ≡ P.state provider.old) }
     requires waits { Waits U work.old.pending (P.state provider.old) }
+    requires skip { LeavesConflicts (rules_view M.meaning rules.now) }
     requires normal { batch.now.mode ≡ Normal }
     requires no_more { KnowsNoMore U (P.state provider.old) batch.now }
     requires sent { IsSent U batch.now change.now.id (state_view change.now.state) }
     requires group { 1 ≤ group }
-    ensures value { IfOk result (λ end. end ≡ end_before U batch.now (item_view change.now) work.old (P.state provider.old)) }
-    ensures work { OnOk result (work.new ≡ work_if (due_after U group batch.now (item_view change.now) more work.old (P.state provider.old)) (turned U batch.now (item_view change.now) work.old (P.state provider.old))) }
-    ensures state { OnOk result (P.state provider.new ≡ state_if U (due_after U group batch.now (item_view change.now) more work.old (P.state provider.old)) (turned U batch.now (item_view change.now) work.old (P.state provider.old)) (P.state provider.old)) }
+    ensures value { let rules = rules_view M.meaning rules.now in
+        let x = item_view change.now in
+        IfOk result (λ end. end ≡ end_before U batch.now rules x work.old (P.state provider.old)) }
+    ensures work { let rules = rules_view M.meaning rules.now in
+        let m = P.state provider.old in
+        OnOk result (work.new ≡ next_work U group batch.now rules (item_view change.now) more work.old m) }
+    ensures state { let rules = rules_view M.meaning rules.now in
+        let last = next_state U group batch.now rules (item_view change.now) more work.old (P.state provider.old) in
+        OnOk result (P.state provider.new ≡ last) }
     ensures told { OnOk result (IfSome (P.kept provider.new) (λ k. k ≡ P.state provider.new)) }
-    ensures came { OnOk result (P.came provider.old provider.new (states_if U (due_after U group batch.now (item_view change.now) more work.old (P.state provider.old)) (turned U batch.now (item_view change.now) work.old (P.state provider.old)) (P.state provider.old))) }
-    ensures fault { OnErr result (CameInPart P.came P.broke provider.old provider.new (states_if U (due_after U group batch.now (item_view change.now) more work.old (P.state provider.old)) (turned U batch.now (item_view change.now) work.old (P.state provider.old)) (P.state provider.old))) }
-    ensures kept { OnErr result (IsKeptIn (P.kept provider.new) (P.state provider.old ∷ states_if U (due_after U group batch.now (item_view change.now) more work.old (P.state provider.old)) (turned U batch.now (item_view change.now) work.old (P.state provider.old)) (P.state provider.old))) }
+    ensures came { let rules = rules_view M.meaning rules.now in
+        let made = next_states U group batch.now rules (item_view change.now) more work.old (P.state provider.old) in
+        OnOk result (P.came provider.old provider.new made) }
+    ensures fault { let rules = rules_view M.meaning rules.now in
+        let made = next_states U group batch.now rules (item_view change.now) more work.old (P.state provider.old) in
+        OnErr result (CameInPart P.came P.broke provider.old provider.new made) }
+    ensures kept { let rules = rules_view M.meaning rules.now in
+        let made = next_states U group batch.now rules (item_view change.now) more work.old (P.state provider.old) in
+        OnErr result (IsKeptIn (P.kept provider.new) (P.state provider.old ∷ made)) }
     ensures consistent { IsConsistent U (P.state provider.old) }
     ensures cause { HasCause (P.faults provider.old) (P.faults provider.new) result }
 {
-    let end = turn(alloc, provider, work, batch, change)?;
+    let end = turn(alloc, provider, work, batch, rules, change)?;
     let due = is_due(group, more, end, work.count());
     commit_if(provider, work, due)?;
     Ok(end)
@@ -74,11 +91,17 @@ pub(crate) fn range_step<const U: usize, P: Provider<U>>(
     requires waits { Waits U work.old.pending (P.state provider.old) }
     requires no_more { KnowsNoMore U (P.state provider.old) batch.now }
     ensures entries { OnOk result (work.new.entries ≡ work.old.entries) }
-    ensures state { OnOk result (P.state provider.new ≡ destination U (with_range_of U batch.now work.old) (P.state provider.old)) }
+    ensures state { let w = with_range_of U batch.now work.old in
+        OnOk result (P.state provider.new ≡ destination U w (P.state provider.old)) }
     ensures told { OnOk result (IfSome (P.kept provider.new) (λ k. k ≡ P.state provider.new)) }
-    ensures came { OnOk result (P.came provider.old provider.new (destination U (with_range_of U batch.now work.old) (P.state provider.old) ∷ [])) }
-    ensures fault { OnErr result (CameInPart P.came P.broke provider.old provider.new (destination U (with_range_of U batch.now work.old) (P.state provider.old) ∷ [])) }
-    ensures kept { OnErr result (IsKeptIn (P.kept provider.new) (P.state provider.old ∷ destination U (with_range_of U batch.now work.old) (P.state provider.old) ∷ [])) }
+    ensures came { let w = with_range_of U batch.now work.old in
+        OnOk result (P.came provider.old provider.new (destination U w (P.state provider.old) ∷ [])) }
+    ensures fault { let w = with_range_of U batch.now work.old in
+        let made = destination U w (P.state provider.old) ∷ [] in
+        OnErr result (CameInPart P.came P.broke provider.old provider.new made) }
+    ensures kept { let w = with_range_of U batch.now work.old in
+        let made = destination U w (P.state provider.old) ∷ [] in
+        OnErr result (IsKeptIn (P.kept provider.new) (P.state provider.old ∷ made)) }
     ensures consistent { IsConsistent U (P.state provider.old) }
     ensures cause { HasCause (P.faults provider.old) (P.faults provider.new) result }
 {

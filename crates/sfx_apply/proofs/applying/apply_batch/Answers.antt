@@ -1,6 +1,7 @@
 use Rattle.std.proofs.Common.{[], inl, le_trans, refl}
 use Rattle.std.proofs.lemmas.Result.{err_from_is_err_and}
 use Rattle.sfx_provider.specs.declared.provider_fault.ProviderFault.TheVariants.{Failed, Memory}
+use Rattle.sfx_settle.specs.Rules.{rules_view}
 use Rattle.sfx_apply.proofs.Bringing.{brought_acts, read_state, told_not_ahead}
 use Rattle.sfx_provider.proofs.Causes.{cause_later}
 use Rattle.sfx_apply.proofs.Exits.{if_ok_never, kept_of_stops, ok_never, some_never}
@@ -17,11 +18,12 @@ returns-in_err-work-clause-not_ahead g c =
 pub returns-in-Ok-clause-acts : goal.returns-in-Ok-clause-acts
 returns-in-Ok-clause-acts g c =
     let p = g.P.Provider in
+    let rules = rules_view g.M.Merger.meaning c.args.rules.now in
     let m = p.state c.args.provider.now in
-    let is = read_state g.row.U m (p.state c.begin.new.provider) (p.state c.apply_changes.new.provider) c.args.batch.now c.in_ok-work.work.budget c.args.budget
+    let is = read_state g.row.U m (p.state c.begin.new.provider) (p.state c.apply_changes.new.provider) c.args.batch.now rules c.in_ok-work.work.budget c.args.budget
     c.in_ok-work.ensures.untouched.0 c.in_ok-work.ensures.budget c.in-Ok.ensures.state in
     λ w source brings.
-    brought_acts w g.row.U source m (p.state c.apply_changes.new.provider) c.args.batch.now c.args.budget c.in_ok-work.ensures.orderly is brings
+    brought_acts w g.row.U source m (p.state c.apply_changes.new.provider) c.args.batch.now rules c.args.budget c.in_ok-work.ensures.orderly is brings
 
 pub returns-in_err-work-clause-report : goal.returns-in_err-work-clause-report
 returns-in_err-work-clause-report g c = if_ok_never _ _ c.from_residual.result c.from_residual.ensures.1
@@ -64,6 +66,7 @@ returns-in_err-work-clause-cause g c =
 pub returns-in-Err-Failed : goal.returns-in-Err-Failed
 returns-in-Err-Failed g c =
     let p = g.P.Provider in
+    let rules = rules_view g.M.Merger.meaning c.args.rules.now in
     let m = p.state c.args.provider.now in
     let begun = c.in_ok-work.ensures in
     let failed = c.in-Err-Failed.ensures in record {
@@ -71,9 +74,9 @@ returns-in-Err-Failed g c =
       state = tt;
       told = tt;
       came = tt;
-      fault = batch_fault p.came p.broke c.args.provider.now c.begin.new.provider c.apply_changes.new.provider g.row.U c.args.batch.now c.args.group c.in_ok-work.work.budget c.args.budget
+      fault = batch_fault p.came p.broke c.args.provider.now c.begin.new.provider c.apply_changes.new.provider g.row.U c.args.batch.now rules c.args.group c.in_ok-work.work.budget c.args.budget
           (p.state c.begin.new.provider) m g.met.P.Provider.came_on begun.untouched.2 begun.untouched.0 begun.budget failed.fault;
-      kept = batch_kept (p.kept c.apply_changes.new.provider) g.row.U c.args.batch.now c.args.group c.in_ok-work.work.budget c.args.budget (p.state c.begin.new.provider) m
+      kept = batch_kept (p.kept c.apply_changes.new.provider) g.row.U c.args.batch.now rules c.args.group c.in_ok-work.work.budget c.args.budget (p.state c.begin.new.provider) m
           begun.untouched.0 begun.budget failed.kept;
       acts = tt;
       ahead = tt;
@@ -86,6 +89,7 @@ returns-in-Err-Failed g c =
 pub returns-in-Err-Memory : goal.returns-in-Err-Memory
 returns-in-Err-Memory g c =
     let p = g.P.Provider in
+    let rules = rules_view g.M.Merger.meaning c.args.rules.now in
     let m = p.state c.args.provider.now in
     let begun = c.in_ok-work.ensures in
     let failed = c.in-Err-Memory.ensures in record {
@@ -93,9 +97,9 @@ returns-in-Err-Memory g c =
       state = tt;
       told = tt;
       came = tt;
-      fault = batch_fault p.came p.broke c.args.provider.now c.begin.new.provider c.apply_changes.new.provider g.row.U c.args.batch.now c.args.group c.in_ok-work.work.budget c.args.budget
+      fault = batch_fault p.came p.broke c.args.provider.now c.begin.new.provider c.apply_changes.new.provider g.row.U c.args.batch.now rules c.args.group c.in_ok-work.work.budget c.args.budget
           (p.state c.begin.new.provider) m g.met.P.Provider.came_on begun.untouched.2 begun.untouched.0 begun.budget failed.fault;
-      kept = batch_kept (p.kept c.apply_changes.new.provider) g.row.U c.args.batch.now c.args.group c.in_ok-work.work.budget c.args.budget (p.state c.begin.new.provider) m
+      kept = batch_kept (p.kept c.apply_changes.new.provider) g.row.U c.args.batch.now rules c.args.group c.in_ok-work.work.budget c.args.budget (p.state c.begin.new.provider) m
           begun.untouched.0 begun.budget failed.kept;
       acts = tt;
       ahead = tt;
@@ -108,13 +112,15 @@ returns-in-Err-Memory g c =
 pub returns-in-Ok-clause-report : goal.returns-in-Ok-clause-report
 returns-in-Ok-clause-report g c =
     let p = g.P.Provider in
-    batch_report g.row.U c.args.batch.now c.in_ok-work.work.budget c.args.budget (p.state c.begin.new.provider) (p.state c.args.provider.now) _
+    let rules = rules_view g.M.Merger.meaning c.args.rules.now in
+    batch_report g.row.U c.args.batch.now rules c.in_ok-work.work.budget c.args.budget (p.state c.begin.new.provider) (p.state c.args.provider.now) _
     c.in_ok-work.ensures.untouched.0 c.in_ok-work.ensures.budget c.in-Ok.ensures.report
 
 pub returns-in-Ok-clause-state : goal.returns-in-Ok-clause-state
 returns-in-Ok-clause-state g c =
     let p = g.P.Provider in
-    read_state g.row.U (p.state c.args.provider.now) (p.state c.begin.new.provider) (p.state c.apply_changes.new.provider) c.args.batch.now c.in_ok-work.work.budget c.args.budget
+    let rules = rules_view g.M.Merger.meaning c.args.rules.now in
+    read_state g.row.U (p.state c.args.provider.now) (p.state c.begin.new.provider) (p.state c.apply_changes.new.provider) c.args.batch.now rules c.in_ok-work.work.budget c.args.budget
     c.in_ok-work.ensures.untouched.0 c.in_ok-work.ensures.budget c.in-Ok.ensures.state
 
 pub returns-in-Ok-clause-told : goal.returns-in-Ok-clause-told
@@ -123,8 +129,9 @@ returns-in-Ok-clause-told g c = c.in-Ok.ensures.told
 pub returns-in-Ok-clause-came : goal.returns-in-Ok-clause-came
 returns-in-Ok-clause-came g c =
     let p = g.P.Provider in
+    let rules = rules_view g.M.Merger.meaning c.args.rules.now in
     let read = c.in_ok-work.ensures.untouched in
-    batch_came p.came c.args.provider.now c.begin.new.provider c.apply_changes.new.provider g.row.U c.args.batch.now c.args.group c.in_ok-work.work.budget c.args.budget
+    batch_came p.came c.args.provider.now c.begin.new.provider c.apply_changes.new.provider g.row.U c.args.batch.now rules c.args.group c.in_ok-work.work.budget c.args.budget
     (p.state c.begin.new.provider) (p.state c.args.provider.now) g.met.P.Provider.came_read read.2 read.0 c.in_ok-work.ensures.budget c.in-Ok.ensures.came
 
 pub returns-in-Ok-clause-fault : goal.returns-in-Ok-clause-fault

@@ -1,7 +1,7 @@
 use Rattle.std.proofs.Common.{◌≡◌, ◌≤◌, drop}
 use Rattle.std.specs.Prelude.{IfSome}
-use Rattle.sfx_model.specs.Rules.{skip_rules}
 use Rattle.sfx_model.specs.Session.{applied}
+use Rattle.sfx_settle.specs.Rules.{rules_view}
 use Rattle.sfx_apply.specs.Turns.{seen_views}
 use Rattle.sfx_apply.proofs.Standing.{Arrived, Stands}
 use Rattle.sfx_apply.proofs.applying.apply_turns.Given as goal
@@ -9,8 +9,14 @@ use Rattle.sfx_apply.proofs.applying.apply_turns.Given as goal
 -- The work stands between the state at the beginning and what comes of the batch, and the provider came by
 -- what is committed so far.
 abbrev pub invariant-changes : goal.invariant-changes
-invariant-changes g l = let p = g.P.Provider in record {
-  stands : Stands (Arrived p.came l.fn.provider l.provider (p.state l.fn.provider) (p.state l.provider)) g.row.U l.batch l.group (applied g.row.U l.batch skip_rules l.fn.work.budget (p.state l.fn.provider)) (p.state l.provider) l.work (drop l.index (seen_views l.turns));
-  told : IfSome (p.kept l.provider) (λ k. k ≡ p.state l.provider);
-  faults : p.faults l.fn.provider ≤ p.faults l.provider;
-}
+invariant-changes g l =
+    let p = g.P.Provider in
+    let rules = rules_view g.M.Merger.meaning l.rules in
+    let first = p.state l.fn.provider in
+    let now = p.state l.provider in record {
+      stands :
+          Stands (Arrived p.came l.fn.provider l.provider first now) g.row.U l.batch rules l.group
+          (applied g.row.U l.batch rules l.fn.work.budget first) now l.work (drop l.index (seen_views l.turns));
+      told : IfSome (p.kept l.provider) (λ k. k ≡ p.state l.provider);
+      faults : p.faults l.fn.provider ≤ p.faults l.provider;
+    }

@@ -1,5 +1,6 @@
 use Rattle.std.proofs.Common.{[], inl, refl, le_trans}
 use Rattle.sfx_model.specs.Items.{item_view}
+use Rattle.sfx_settle.specs.Rules.{rules_view}
 use Rattle.sfx_apply.specs.Turns.{due_after, end_before, turned}
 use Rattle.sfx_provider.proofs.Causes.{cause_later}
 use Rattle.sfx_apply.proofs.Exits.{cause_handed, if_ok_never, kept_first, ok_never}
@@ -28,12 +29,13 @@ returns-in_err-commit_if g c =
     let p = g.P.Provider in
     let m = p.state c.args.provider.now in
     let b = c.args.batch.now in
+    let rules = rules_view g.M.Merger.meaning c.args.rules.now in
     let change = item_view c.args.change.now in
     let turn = c.in_ok-end.ensures in
     let failed = c.in_err-commit_if.ensures in
-    let after = due_after g.row.U c.args.group b change c.args.more c.args.work.now m in
-    let next = turned g.row.U b change c.args.work.now m in
-    let due = same_due c.args.group c.count.result c.args.more c.is_due-due.result c.in_ok-end.end (end_before g.row.U b change c.args.work.now m)
+    let after = due_after g.row.U c.args.group b rules change c.args.more c.args.work.now m in
+    let next = turned g.row.U b rules change c.args.work.now m in
+    let due = same_due c.args.group c.count.result c.args.more c.is_due-due.result c.in_ok-end.end (end_before g.row.U b rules change c.args.work.now m)
     c.turn.new.work next c.is_due-due.ensures c.count.ensures turn.value turn.work in
     let r = c.from_residual-in_err-commit_if.result in
     let is = c.from_residual-in_err-commit_if.ensures.1 in record {
@@ -58,12 +60,13 @@ returns g c =
     let p = g.P.Provider in
     let m = p.state c.args.provider.now in
     let b = c.args.batch.now in
+    let rules = rules_view g.M.Merger.meaning c.args.rules.now in
     let change = item_view c.args.change.now in
     let turn = c.in_ok-end.ensures in
     let done = c.in_ok-commit_if.ensures in
-    let after = due_after g.row.U c.args.group b change c.args.more c.args.work.now m in
-    let next = turned g.row.U b change c.args.work.now m in
-    let due = same_due c.args.group c.count.result c.args.more c.is_due-due.result c.in_ok-end.end (end_before g.row.U b change c.args.work.now m)
+    let after = due_after g.row.U c.args.group b rules change c.args.more c.args.work.now m in
+    let next = turned g.row.U b rules change c.args.work.now m in
+    let due = same_due c.args.group c.count.result c.args.more c.is_due-due.result c.in_ok-end.end (end_before g.row.U b rules change c.args.work.now m)
     c.turn.new.work next c.is_due-due.ensures c.count.ensures turn.value turn.work in record {
       value = turn.value;
       work = step_work c.is_due-due.result after c.turn.new.work next c.commit_if.new.work due turn.work done.work;

@@ -1,0 +1,40 @@
+-- A change at a destination where conflicts are left alone.
+use Rattle.std.proofs.Common.{◌≡◌, ℕ, Option, Some, None, refl}
+use Rattle.sfx_model.specs.declared.mode.Mode.TheVariants.{Normal}
+use Rattle.sfx_model.specs.Batch.{Batch, IsBatch, IsSent}
+use Rattle.sfx_model.specs.Consistent.{IsConsistent}
+use Rattle.sfx_model.specs.Members.{ItemState, MemberItem, Member, state_of}
+use Rattle.sfx_model.specs.Rules.{Rules}
+use Rattle.sfx_provider.proofs.Commits.{commits_consistent, stored}
+use Rattle.sfx_apply.specs.Rules.{LeavesConflicts}
+use Rattle.sfx_apply.specs.Turns.{WorkData, destination, plan_at}
+use Rattle.sfx_apply.specs.Work.{KnowsNoMore, Waits}
+use Rattle.sfx_apply.proofs.Drafts.{IsWholeHere}
+use Rattle.sfx_apply.proofs.Fitting.{change_waits}
+use Rattle.sfx_apply.proofs.Laying.{Lays, change_laid}
+use Rattle.sfx_apply.proofs.Plans.{SkipsAll, change_plan}
+
+-- What is known of the plan of a change at the destination.
+pub plan_skips :
+    (units : ℕ) (b : Batch) (rules : Rules) (change : MemberItem) (w : WorkData) (m : Member)
+    → IsConsistent units m → Waits units w.pending m → LeavesConflicts rules → IsSent units b change.id change.state
+    → SkipsAll units change.id change.state (state_of (destination units w m).items change.id) (destination units w m).items
+    (plan_at units b rules change (destination units w m))
+plan_skips units b rules change w m good waits skip sent =
+    change_plan units b rules (destination units w m) change skip good.some sent.whole (whole (state_of (destination units w m).items change.id) refl)
+  where
+    whole : (o : Option ItemState) → state_of (destination units w m).items change.id ≡ o → IsWholeHere units o
+    whole None e = tt
+    whole (Some own) e = ((commits_consistent units w.pending m good (stored units w.pending m good waits.form) waits.fits).items change.id own e).whole
+
+-- The entry of a change is laid over as it is to be.
+pub skipped_lays :
+    (units : ℕ) (b : Batch) (rules : Rules) (change : MemberItem) (w : WorkData) (m : Member)
+    → IsConsistent units m → Waits units w.pending m → KnowsNoMore units m b → IsBatch units b → IsSent units b change.id change.state
+    → LeavesConflicts rules → b.mode ≡ Normal
+    → Lays units b rules change w m
+skipped_lays units b rules change w m good waits no_more batch sent skip normal =
+    let skips = plan_skips units b rules change w m good waits skip sent in record {
+      laid = change_laid units b change (plan_at units b rules change (destination units w m)) w.pending m good waits batch normal skips;
+      waits = change_waits units b change (plan_at units b rules change (destination units w m)) w.pending m good waits batch no_more sent skips;
+    }
