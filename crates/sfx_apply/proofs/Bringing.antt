@@ -1,5 +1,6 @@
 -- What a batch does in a world, and that no replica of it is ahead, by the laws of the model.
 use Rattle.std.proofs.Common.{◌≡◌, ℕ, Option, Some, None, Err, sym, ◌∙◌, ap, subst}
+use Rattle.std.specs.Option.{option_map}
 use Rattle.sfx_knowledge.specs.Forgotten.{Forgets}
 use Rattle.sfx_knowledge.specs.Knowledge.{Known}
 use Rattle.sfx_model.specs.Acting.{Brings, DeedsActIn, IsDue, IsOrderly, KnowsForgotten}
@@ -10,7 +11,8 @@ use Rattle.sfx_model.specs.Members.{Member}
 use Rattle.sfx_model.specs.Rules.{Rules}
 use Rattle.sfx_model.specs.Session.{applied}
 use Rattle.sfx_model.specs.World.{World}
-use Rattle.sfx_apply.specs.Fault.{IsNotAhead, TellsAhead}
+use Rattle.sfx_provider.specs.Answer.{IsNever, Refuses}
+use Rattle.sfx_apply.specs.Fault.{is_ahead, refusal_of}
 use Rattle.sfx_apply.specs.declared.apply_fault.ApplyFault.{ApplyFault}
 use Rattle.sfx_apply.specs.declared.apply_fault.ApplyFault.TheVariants.{Ahead, Provider, Memory}
 use Rattle.sfx_model.proofs.Concluding.{batch_acts}
@@ -48,33 +50,20 @@ brought_behind w units source m b brings =
     (none_ahead w source m part.source_stands part.stands theirs) in
     ap (λ (x : Known). ahead_of m x b.forgotten) known ∙ (ap (λ (x : Forgets). ahead_of m (laid_known units source) x) forgotten ∙ none)
 
--- So it is not found to be.
-pub brought_not_ahead :
-    (w : World) (units tick : ℕ) (source m : Member) (b : Batch) → ahead_of m b.made_with b.forgotten ≡ Some tick
-    → Brings w units source m b → ⊥
-brought_not_ahead w units tick source m b ahead brings = no_tick (sym ahead ∙ brought_behind w units source m b brings)
-  where
-    no_tick : Some tick ≡ None → ⊥
-    no_tick e = cc
-
 -- What is told of a destination that a source brings a batch is not that it is ahead.
 pub told_not_ahead :
-    (w : World) (units clock : ℕ) (source m : Member) (b : Batch) (e : ApplyFault)
-    → TellsAhead {T = Unit {0}} (ahead_of m b.made_with b.forgotten) clock (Err e) → Brings w units source m b → IsNotAhead {T = Unit {0}} (Err e)
-told_not_ahead w units clock source m b (Ahead tick own) told brings = brought_not_ahead w units tick source m b told.0 brings
-told_not_ahead w units clock source m b Provider told brings = tt
-told_not_ahead w units clock source m b Memory told brings = tt
+    (w : World) (units : ℕ) (source m : Member) (b : Batch) (e : ApplyFault)
+    → Refuses {A = Unit {0}} is_ahead (Err e) (refusal_of m b) → Brings w units source m b → IsNever {A = Unit {0}} is_ahead (Err e)
+told_not_ahead w units source m b (Ahead tick clock) told brings =
+    let none : refusal_of m b ≡ None = ap (option_map (λ (x : ℕ). Ahead x m.clock)) (brought_behind w units source m b brings) in
+    let bad : Some (Ahead tick clock) ≡ None = sym told ∙ none in
+    absurd (cc)
+told_not_ahead w units source m b Provider told brings = tt
+told_not_ahead w units source m b Memory told brings = tt
 
--- A fault that does not tell that the replica is ahead agrees with whatever it is.
-pub tells_other :
-    (ahead : Option ℕ) (clock : ℕ) (e : ApplyFault) → IsNotAhead {T = Unit {0}} (Err e) → TellsAhead {T = Unit {0}} ahead clock (Err e)
-tells_other ahead clock (Ahead tick own) other = absurd other
-tells_other ahead clock Provider other = tt
-tells_other ahead clock Memory other = tt
-
--- The state that comes of the batch, by what is read of the replica before.
-pub read_state :
-    (units : ℕ) (m read after : Member) (b : Batch) (rules : Rules) (left budget : Option ℕ) → read ≡ m → left ≡ budget
-    → after ≡ (applied units b rules left read).member → after ≡ (applied units b rules budget m).member
-read_state units m read after b rules left budget same same_budget is =
-    is ∙ (ap (λ (o : Option ℕ). (applied units b rules o read).member) same_budget ∙ ap (λ (x : Member). (applied units b rules budget x).member) same)
+-- A fault that is no refusal agrees with whatever refuses the batch.
+pub refuses_other :
+    (refusal : Option ApplyFault) (e : ApplyFault) → IsNever {A = Unit {0}} is_ahead (Err e) → Refuses {A = Unit {0}} is_ahead (Err e) refusal
+refuses_other refusal (Ahead tick clock) other = absurd other
+refuses_other refusal Provider other = tt
+refuses_other refusal Memory other = tt

@@ -23,15 +23,11 @@ use Rattle.sfx_provider.specs.Commit.{CommitData}
 use Rattle.sfx_provider.proofs.Commits.{commits_consistent, stored}
 use Rattle.sfx_apply.specs.Rules.{LeavesConflicts}
 use Rattle.sfx_apply.specs.Turns.{WorkData, destination, end_before, entered, plan_at, turned, unless_ended, with_entry_of}
-use Rattle.sfx_apply.specs.Work.{KnowsNoMore, Waits, with_marks}
+use Rattle.sfx_apply.specs.Work.{KnowsNoMore, Waits, quiet_entry, with_marks}
 use Rattle.sfx_apply.proofs.Fitting.{change_waits}
 use Rattle.sfx_apply.proofs.Laying.{changed_skipped}
 use Rattle.sfx_apply.proofs.Plans.{SkipsAll}
 use Rattle.sfx_apply.proofs.Skipping.{plan_skips}
-
--- The entry with these marks, where conflicts are skipped.
-abbrev pub quiet_entry : ItemId → List Mark → Entry
-quiet_entry i marks = record { item = i; kind = kind_of_marks marks; marks = marks; tick = None; name = None; others = [] }
 
 abbrev told : ItemId → EntryKind → List Mark → Option ℕ → Option (List ℕ) → List Other → Entry
 told i kind marks tick name others = record { item = i; kind = kind; marks = marks; tick = tick; name = name; others = others }

@@ -76,6 +76,7 @@ more_known units c k m waits form more own = record {
         let low = waits.fits.knowledge place u r is inside in
         let high = more place u r is inside in
         omega (arith, low, high);
+    forgets = waits.fits.forgets;
     forgotten = waits.fits.forgotten;
     most = waits.fits.most;
     own = own;
@@ -120,6 +121,7 @@ one_more units x c m good waits known free = record {
   fits = record {
     clock = waits.fits.clock;
     knowledge = waits.fits.knowledge;
+    forgets = waits.fits.forgets;
     forgotten = waits.fits.forgotten;
     most = waits.fits.most;
     own = waits.fits.own;
@@ -291,6 +293,7 @@ made_waits units c m good waits =
       fits = record {
         clock = omega arith;
         knowledge = λ place u r is inside. let same = exact.knowledge place u r is inside in omega (arith, same);
+        forgets = waits.fits.forgets;
         forgotten = λ place r is. omega arith;
         most = waits.fits.most;
         own = waits.fits.own;

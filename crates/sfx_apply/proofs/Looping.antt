@@ -1,5 +1,5 @@
 -- One turn of a batch, and its range at the end, by what the steps say.
-use Rattle.std.proofs.Common.{◌≡◌, ◌⊎◌, Bor, ℕ, zero, suc, ◌+◌, ◌<◌, ◌≤◌, Bool, true, false, not, if◌then◌else◌, nat_lt, List, [], ◌∷◌, ◌++◌, length, map, drop, get_or, Option, Some, None, inl, inr, refl, sym, ◌∙◌, ap, subst, arith}
+use Rattle.std.proofs.Common.{◌≡◌, Bor, ℕ, zero, suc, ◌+◌, ◌<◌, ◌≤◌, Bool, true, false, not, if◌then◌else◌, nat_lt, List, [], ◌∷◌, ◌++◌, length, map, drop, get_or, Option, Some, None, inl, inr, refl, sym, ◌∙◌, ap, subst, arith}
 use Rattle.std.specs.List.{filter}
 use Rattle.std.proofs.lemmas.Bool.Decides.{nat_tests}
 use Rattle.std.proofs.lemmas.List.{drop_all, length-drop, length-map, map-append}
@@ -9,20 +9,22 @@ use Rattle.sfx_model.specs.declared.apply_end.ApplyEnd.TheVariants.{Whole}
 use Rattle.sfx_model.specs.declared.mode.Mode.TheVariants.{Normal}
 use Rattle.sfx_model.specs.Batch.{Batch, IsBatch, IsSent}
 use Rattle.sfx_model.specs.Consistent.{IsConsistent}
-use Rattle.sfx_model.specs.Entry.{Change}
+use Rattle.sfx_model.specs.Entry.{Change, Entry}
 use Rattle.sfx_model.specs.Items.{item_view, state_view}
 use Rattle.sfx_model.specs.Members.{MemberItem, Member}
 use Rattle.sfx_model.specs.Moments.{committed, stops}
 use Rattle.sfx_model.specs.Rules.{Rules}
-use Rattle.sfx_model.specs.Session.{AppliedBatch, Outcome, applied, applied_batch, go, is_live_state, is_more, tasks_of}
+use Rattle.sfx_model.specs.Session.{Outcome, applied, go, is_live_state, is_more, tasks_of}
 use Rattle.sfx_model.specs.Sets.{Has}
-use Rattle.sfx_provider.specs.Course.{CameInPart}
+use Rattle.sfx_model.proofs.Sets.{has_either}
+use Rattle.sfx_provider.specs.Leaves.{Arrives, BreaksOff, Rests}
+use Rattle.sfx_provider.proofs.LeavesLemmas.{arrives_later, arrives_still, breaks_later, rests_self}
 use Rattle.sfx_provider.proofs.Courses.{opened}
-use Rattle.sfx_apply.specs.Turns.{IsKeptIn, WorkData, destination, due_after, end_before, in_turn, seen_views, state_if, states_if, turned, with_range_of, work_begun, work_if}
+use Rattle.sfx_apply.specs.Turns.{WorkData, destination, due_after, end_before, in_turn, next_state, next_states, next_work, seen_views, turned, with_range_of, work_begun}
 use Rattle.sfx_apply.specs.Work.{KnowsNoMore}
 use Rattle.sfx_apply.proofs.Clashing.{state_has}
 use Rattle.sfx_apply.proofs.Laying.{Lays, RangeLays}
-use Rattle.sfx_apply.proofs.Standing.{Arrived, Ends, Stands, arrived_on, begun, finishing, kept_on, part_on, range_part, read_before, step_off, step_on, turn_part}
+use Rattle.sfx_apply.proofs.Standing.{Arrived, Ends, Stands, arrived_on, begun, breaks_part, finishing, range_part, step_off, step_on, turn_part}
 
 -- ---- the changes in turn
 
@@ -34,16 +36,9 @@ has_filtered test (y ∷ ys) x has = by_test (has_filtered test ys x) (test y) h
     by_test rest true h = elim h [ inl same ↦ inl same | inr there ↦ inr (rest there) ]
     by_test rest false h = inr (rest h)
 
-has_either : (xs ys : List MemberItem) (x : MemberItem) → Has x (xs ++ ys) → Has x xs ⊎ Has x ys
-has_either [] ys x has = inr has
-has_either (y ∷ xs) ys x has = elim has [
-  | inl same ↦ inl (inl same)
-  | inr there ↦ elim (has_either xs ys x there) [ inl left ↦ inl (inr left) | inr right ↦ inr right ]
-]
-
 turn_of : (changes : List MemberItem) (x : MemberItem) → Has x (in_turn changes) → Has x changes
 turn_of changes x has =
-    elim (has_either (filter (λ y. not (is_live_state y.state)) changes) (filter (λ y. is_live_state y.state) changes) x has) [
+    elim (has_either x (filter (λ y. not (is_live_state y.state)) changes) (filter (λ y. is_live_state y.state) changes) has) [
       | inl dead ↦ has_filtered (λ y. not (is_live_state y.state)) changes x dead
       | inr live ↦ has_filtered (λ y. is_live_state y.state) changes x live
     ]
@@ -114,179 +109,169 @@ turns_normal units b m turns normal order = ap (map Change) order ∙ sym (tasks
 
 -- A batch begins.
 pub loop_begun :
-    {U : ℕ} {P : Type 0} (came : P → P → List Member → Type 0) (p : P) (b : Batch) (rules : Rules) (group : ℕ) (m : Member) (w : WorkData) (refs : List (Bor (Item U)))
-    → IsConsistent U m → KnowsNoMore U m b → came p p [] → w ≡ work_begun U w.budget m
-    → map Change (seen_views refs) ≡ tasks_of U b m
-    → Stands (Arrived came p p m m) U b rules group (applied U b rules w.budget m) m w (seen_views refs)
-loop_begun {U} {P} came p b rules group m w refs good no_more none fresh tasks =
-    let start = begun (Arrived came p p m m) U b rules group m w.budget (seen_views refs) good no_more (record { path = none; among = inl refl }) in
+    {U : ℕ} {P : Type 0} {state : P → Member} {kept : P → Option Member} {settled : P → Type 0} {came : P → P → List Member → Type 0} (p : P)
+    (b : Batch) (rules : Rules) (group : ℕ) (w : WorkData) (refs : List (Bor (Item U)))
+    → IsConsistent U (state p) → KnowsNoMore U (state p) b → settled p → ((a : P) → came a a [])
+    → w ≡ work_begun U w.budget (state p) → map Change (seen_views refs) ≡ tasks_of U b (state p)
+    → Stands (Arrived state kept settled came p p (state p)) U b rules group (applied U b rules w.budget (state p)) (state p) w (seen_views refs)
+loop_begun {U} {P} {state} {kept} {settled} {came} p b rules group w refs good no_more so none fresh tasks =
+    let m : Member = state p in
+    let first : Arrived state kept settled came p p (state p) [] =
+    record { path = arrives_still so (rests_self none p); among = inl refl } in
+    let start = begun (Arrived state kept settled came p p m) U b rules group m w.budget (seen_views refs) good no_more first in
     let out_is : go U b rules (record { member = m; entries = []; moments = []; budget = w.budget }) (map Change (seen_views refs)) ≡ applied U b rules w.budget m =
     ap (go U b rules (record { member = m; entries = []; moments = []; budget = w.budget })) tasks in
-    subst (λ (o : Outcome). Stands (Arrived came p p m m) U b rules group o m w (seen_views refs)) out_is
-    (subst (λ (x : WorkData). Stands (Arrived came p p m m) U b rules group
+    subst (λ (o : Outcome). Stands (Arrived state kept settled came p p m) U b rules group o m w (seen_views refs)) out_is
+    (subst (λ (x : WorkData). Stands (Arrived state kept settled came p p m) U b rules group
     (go U b rules (record { member = m; entries = []; moments = []; budget = w.budget }) (map Change (seen_views refs))) m x (seen_views refs)) (sym fresh) start)
 
--- A change was taken, and the batch goes on.
+-- The batch has come to a change, whose entry is laid over as it is to be; `more` tells whether further ones
+-- are left.
+pub record AtTurn
+    (Came : List Member → Type 0) (units : ℕ) (b : Batch) (rules : Rules) (group : ℕ) (out : Outcome) (m : Member) (w : WorkData)
+    (change : MemberItem) (rest : List MemberItem) (more : Bool) : Type 0 where
+  pub stands : Stands Came units b rules group out m w (change ∷ rest)
+  pub good : IsConsistent units m
+  pub lays : Lays units b rules change w m
+  pub left : more ≡ is_more (map Change rest)
+
+-- The change was taken, and the batch goes on.
 pub loop_on :
-    {P : Type 0} (came : P → P → List Member → Type 0) (p q r : P) (units : ℕ) (b : Batch) (rules : Rules) (group : ℕ) (out : Outcome) (first m n : Member)
-    (w after : WorkData) (change : MemberItem) (now rest : List MemberItem) (more : Bool) (end : Option ApplyEnd)
+    {P : Type 0} {state : P → Member} {kept : P → Option Member} {settled : P → Type 0} {came : P → P → List Member → Type 0} {p q r : P}
+    {units : ℕ} {b : Batch} {rules : Rules} {group : ℕ} {out : Outcome} {first : Member} {w : WorkData} {change : MemberItem}
+    {rest : List MemberItem} {more : Bool} (after : WorkData) (end : Option ApplyEnd)
     → ((x y z : P) (xs ys : List Member) → came x y xs → came y z ys → came x z (xs ++ ys))
-    → Stands (Arrived came p q first m) units b rules group out m w now → now ≡ change ∷ rest → more ≡ is_more (map Change rest)
-    → IsConsistent units m → Lays units b rules change w m
-    → end ≡ end_before units b rules change w m → end ≡ None
-    → n ≡ state_if units (due_after units group b rules change more w m) (turned units b rules change w m) m
-    → after ≡ work_if (due_after units group b rules change more w m) (turned units b rules change w m)
-    → came q r (states_if units (due_after units group b rules change more w m) (turned units b rules change w m) m)
-    → Stands (Arrived came p r first n) units b rules group out n after rest
-loop_on came p q r units b rules group out first m n w after change now rest more end on stands open_at more_is good lays is none n_is after_is step =
-    let here : Stands (Arrived came p q first m) units b rules group out m w (change ∷ rest) =
-    subst (λ (xs : List MemberItem). Stands (Arrived came p q first m) units b rules group out m w xs) open_at stands in
-    let n_is' = subst (λ (x : Bool). n ≡ state_if units (due_after units group b rules change x w m) (turned units b rules change w m) m) more_is n_is in
-    let after_is' = subst (λ (x : Bool). after ≡ work_if (due_after units group b rules change x w m) (turned units b rules change w m)) more_is after_is in
-    let step' = subst (λ (x : Bool). came q r (states_if units (due_after units group b rules change x w m) (turned units b rules change w m) m)) more_is step in
-    step_on (Arrived came p q first m) (Arrived came p r first n) units b rules group out m n w after change rest (end_before units b rules change w m)
-    here good lays (sym is ∙ none) refl n_is' after_is'
-    (λ made arrived. arrived_on came p q r units (due_after units group b rules change (is_more (map Change rest)) w m) (turned units b rules change w m) first m n made on arrived step' n_is')
+    → AtTurn (Arrived state kept settled came p q first) units b rules group out (state q) w change rest more
+    → end ≡ end_before units b rules change w (state q) → end ≡ None
+    → after ≡ next_work units group b rules change more w (state q)
+    → Arrives state kept settled came q r (next_states units group b rules change more w (state q)) (next_state units group b rules change more w (state q))
+    → Stands (Arrived state kept settled came p r first) units b rules group out (state r) after rest
+loop_on {P} {state} {kept} {settled} {came} {p} {q} {r} {units} {b} {rules} {group} {out} {first} {w} {change} {rest} {more} after end on here is none after_is step =
+    let m : Member = state q in
+    let after_is' = subst (λ (x : Bool). after ≡ next_work units group b rules change x w m) here.left after_is in
+    let step' = subst (λ (x : Bool). Arrives state kept settled came q r (next_states units group b rules change x w m) (next_state units group b rules change x w m)) here.left step in
+    step_on (Arrived state kept settled came p q first) (Arrived state kept settled came p r first) units b rules group out m (state r) w after change rest (end_before units b rules change w m)
+    here.stands here.good here.lays (sym is ∙ none) refl step'.at after_is'
+    (λ made arrived. arrived_on units (due_after units group b rules change (is_more (map Change rest)) w m) (turned units b rules change w m) first made on arrived step')
 
--- The batch ended before a change.
+-- The batch ended before the change.
 pub loop_off :
-    {P : Type 0} (came : P → P → List Member → Type 0) (p q r : P) (units : ℕ) (b : Batch) (rules : Rules) (group : ℕ) (out : Outcome) (first m n : Member)
-    (w after : WorkData) (change : MemberItem) (now rest : List MemberItem) (more : Bool) (end : Option ApplyEnd) (how : ApplyEnd)
+    {P : Type 0} {state : P → Member} {kept : P → Option Member} {settled : P → Type 0} {came : P → P → List Member → Type 0} {p q r : P}
+    {units : ℕ} {b : Batch} {rules : Rules} {group : ℕ} {out : Outcome} {first : Member} {w : WorkData} {change : MemberItem}
+    {rest : List MemberItem} {more : Bool} (after : WorkData) (end : Option ApplyEnd) (how : ApplyEnd)
     → ((x y z : P) (xs ys : List Member) → came x y xs → came y z ys → came x z (xs ++ ys))
-    → Stands (Arrived came p q first m) units b rules group out m w now → now ≡ change ∷ rest → more ≡ is_more (map Change rest)
-    → end ≡ end_before units b rules change w m → end ≡ Some how
-    → n ≡ state_if units (due_after units group b rules change more w m) (turned units b rules change w m) m
-    → after ≡ work_if (due_after units group b rules change more w m) (turned units b rules change w m)
-    → came q r (states_if units (due_after units group b rules change more w m) (turned units b rules change w m) m)
-    → Ends (Arrived came p r first n) group out n after.entries how
-loop_off came p q r units b rules group out first m n w after change now rest more end how on stands open_at more_is is some n_is after_is step =
-    let here : Stands (Arrived came p q first m) units b rules group out m w (change ∷ rest) =
-    subst (λ (xs : List MemberItem). Stands (Arrived came p q first m) units b rules group out m w xs) open_at stands in
-    let n_is' = subst (λ (x : Bool). n ≡ state_if units (due_after units group b rules change x w m) (turned units b rules change w m) m) more_is n_is in
-    let after_is' = subst (λ (x : Bool). after ≡ work_if (due_after units group b rules change x w m) (turned units b rules change w m)) more_is after_is in
-    let step' = subst (λ (x : Bool). came q r (states_if units (due_after units group b rules change x w m) (turned units b rules change w m) m)) more_is step in
-    step_off (Arrived came p q first m) (Arrived came p r first n) units b rules group out m n w after change rest (end_before units b rules change w m) how
-    here (sym is ∙ some) refl n_is' after_is'
-    (λ made arrived. arrived_on came p q r units (due_after units group b rules change (is_more (map Change rest)) w m) (turned units b rules change w m) first m n made on arrived step' n_is')
+    → AtTurn (Arrived state kept settled came p q first) units b rules group out (state q) w change rest more
+    → end ≡ end_before units b rules change w (state q) → end ≡ Some how
+    → after ≡ next_work units group b rules change more w (state q)
+    → Arrives state kept settled came q r (next_states units group b rules change more w (state q)) (next_state units group b rules change more w (state q))
+    → Ends (Arrived state kept settled came p r first) group out (state r) after.entries how
+loop_off {P} {state} {kept} {settled} {came} {p} {q} {r} {units} {b} {rules} {group} {out} {first} {w} {change} {rest} {more} after end how on here is some after_is step =
+    let m : Member = state q in
+    let after_is' = subst (λ (x : Bool). after ≡ next_work units group b rules change x w m) here.left after_is in
+    let step' = subst (λ (x : Bool). Arrives state kept settled came q r (next_states units group b rules change x w m) (next_state units group b rules change x w m)) here.left step in
+    step_off (Arrived state kept settled came p q first) (Arrived state kept settled came p r first) units b rules group out m (state r) w after change rest (end_before units b rules change w m) how
+    here.stands (sym is ∙ some) refl step'.at after_is'
+    (λ made arrived. arrived_on units (due_after units group b rules change (is_more (map Change rest)) w m) (turned units b rules change w m) first made on arrived step')
 
--- The step of a change failed.
-pub loop_fault :
-    {P : Type 0} (came : P → P → List Member → Type 0) (broke : P → P → Member → Type 0) (p q r : P) (units : ℕ) (b : Batch) (rules : Rules) (group : ℕ) (out : Outcome) (first m : Member)
-    (w : WorkData) (change : MemberItem) (now rest : List MemberItem) (more : Bool)
+-- The step of the change broke off.
+pub loop_breaks :
+    {P : Type 0} {state : P → Member} {kept : P → Option Member} {settled : P → Type 0} {came : P → P → List Member → Type 0}
+    {broke : P → P → Member → Type 0} {p q r : P}
+    {units : ℕ} {b : Batch} {rules : Rules} {group : ℕ} {out : Outcome} {first : Member} {w : WorkData} {change : MemberItem}
+    {rest : List MemberItem} {more : Bool}
     → ((x y z : P) (xs ys : List Member) → came x y xs → came y z ys → came x z (xs ++ ys))
-    → Stands (Arrived came p q first m) units b rules group out m w now → now ≡ change ∷ rest → more ≡ is_more (map Change rest)
-    → IsConsistent units m → Lays units b rules change w m
-    → CameInPart came broke q r (states_if units (due_after units group b rules change more w m) (turned units b rules change w m) m)
-    → CameInPart came broke p r (committed group out.moments)
-loop_fault came broke p q r units b rules group out first m w change now rest more on stands open_at more_is good lays fault =
-    let here : Stands (Arrived came p q first m) units b rules group out m w (change ∷ rest) =
-    subst (λ (xs : List MemberItem). Stands (Arrived came p q first m) units b rules group out m w xs) open_at stands in
-    let fault' = subst (λ (x : Bool). CameInPart came broke q r (states_if units (due_after units group b rules change x w m) (turned units b rules change w m) m)) more_is fault in
-    part_on came broke p q r (committed group here.moments) (states_if units (due_after units group b rules change (is_more (map Change rest)) w m) (turned units b rules change w m) m) (committed group out.moments)
-    on here.came.path fault' (turn_part (Arrived came p q first m) units b rules group out m w change rest here good lays)
-
-pub loop_kept :
-    {P : Type 0} (came : P → P → List Member → Type 0) (p q : P) (kept : Option Member) (units : ℕ) (b : Batch) (rules : Rules) (group : ℕ) (out : Outcome) (first m : Member)
-    (w : WorkData) (change : MemberItem) (now rest : List MemberItem) (more : Bool)
-    → Stands (Arrived came p q first m) units b rules group out m w now → now ≡ change ∷ rest → more ≡ is_more (map Change rest)
-    → IsConsistent units m → Lays units b rules change w m
-    → IsKeptIn kept (m ∷ states_if units (due_after units group b rules change more w m) (turned units b rules change w m) m)
-    → IsKeptIn kept (stops group first out.moments)
-loop_kept came p q kept units b rules group out first m w change now rest more stands open_at more_is good lays is =
-    let here : Stands (Arrived came p q first m) units b rules group out m w (change ∷ rest) =
-    subst (λ (xs : List MemberItem). Stands (Arrived came p q first m) units b rules group out m w xs) open_at stands in
-    let is' = subst (λ (x : Bool). IsKeptIn kept (m ∷ states_if units (due_after units group b rules change x w m) (turned units b rules change w m) m)) more_is is in
-    kept_on kept group first m (committed group here.moments) (states_if units (due_after units group b rules change (is_more (map Change rest)) w m) (turned units b rules change w m) m) out.moments
-    here.came.among is' (turn_part (Arrived came p q first m) units b rules group out m w change rest here good lays)
+    → AtTurn (Arrived state kept settled came p q first) units b rules group out (state q) w change rest more
+    → BreaksOff kept came broke q r (next_states units group b rules change more w (state q)) (state q ∷ next_states units group b rules change more w (state q))
+    → BreaksOff kept came broke p r (committed group out.moments) (stops group first out.moments)
+loop_breaks {P} {state} {kept} {settled} {came} {broke} {p} {q} {r} {units} {b} {rules} {group} {out} {first} {w} {change} {rest} {more} on here breaks =
+    let m : Member = state q in
+    let breaks' = subst (λ (x : Bool). BreaksOff kept came broke q r (next_states units group b rules change x w m) (m ∷ next_states units group b rules change x w m)) here.left breaks in
+    breaks_part group first (committed group here.stands.moments) (next_states units group b rules change (is_more (map Change rest)) w m) out.moments
+    on here.stands.came (turn_part (Arrived state kept settled came p q first) units b rules group out m w change rest here.stands here.good here.lays) breaks'
 
 -- ---- the range at the end
 
 none_left : {U : ℕ} (refs : List (Bor (Item U))) (i : ℕ) → length refs ≤ i → drop i (seen_views refs) ≡ []
 none_left refs i past = drop_all i (seen_views refs) (let long = length-map refs (λ y. item_view y.now) in omega (arith, long, past))
 
+-- The batch has come to its end, where the range is laid over as it is to be.
+pub record AtRange (Came : List Member → Type 0) (units : ℕ) (b : Batch) (rules : Rules) (group : ℕ) (out : Outcome) (m : Member) (w : WorkData) : Type 0 where
+  pub stands : Stands Came units b rules group out m w []
+  pub lays : RangeLays units b w m
+
+pub at_range :
+    {U : ℕ} (Came : List Member → Type 0) (b : Batch) (rules : Rules) (group : ℕ) (out : Outcome) (m : Member) (w : WorkData) (refs : List (Bor (Item U))) (i : ℕ)
+    → Stands Came U b rules group out m w (drop i (seen_views refs)) → length refs ≤ i → RangeLays U b w m
+    → AtRange Came U b rules group out m w
+at_range {U} Came b rules group out m w refs i stands past lays = record {
+  stands = subst (λ (xs : List MemberItem). Stands Came U b rules group out m w xs) (none_left refs i past) stands;
+  lays = lays;
+}
+
 pub range_end :
-    {U : ℕ} {P : Type 0} (came : P → P → List Member → Type 0) (p q r : P) (b : Batch) (rules : Rules) (group : ℕ) (out : Outcome) (first m n : Member)
-    (w after : WorkData) (refs : List (Bor (Item U))) (i : ℕ)
+    {P : Type 0} {state : P → Member} {kept : P → Option Member} {settled : P → Type 0} {came : P → P → List Member → Type 0} {p q r : P}
+    {units : ℕ} {b : Batch} {rules : Rules} {group : ℕ} {out : Outcome} {first : Member} {w : WorkData} (after : WorkData)
     → ((x y z : P) (xs ys : List Member) → came x y xs → came y z ys → came x z (xs ++ ys))
-    → Stands (Arrived came p q first m) U b rules group out m w (drop i (seen_views refs)) → length refs ≤ i
-    → RangeLays U b w m
-    → n ≡ destination U (with_range_of U b w) m → after.entries ≡ w.entries
-    → came q r (destination U (with_range_of U b w) m ∷ [])
-    → Ends (Arrived came p r first n) group out n after.entries Whole
-range_end {U} came p q r b rules group out first m n w after refs i on stands past laid n_is entries step =
-    let here : Stands (Arrived came p q first m) U b rules group out m w [] =
-    subst (λ (xs : List MemberItem). Stands (Arrived came p q first m) U b rules group out m w xs) (none_left refs i past) stands in
-    let ends : Ends (Arrived came p r first n) group out (destination U (with_range_of U b w) m) w.entries Whole =
-    finishing (Arrived came p q first m) (Arrived came p r first n) U b rules group out m w here laid
-    (λ made arrived. arrived_on came p q r U true (with_range_of U b w) first m n made on arrived step n_is) in
-    subst (λ (x : Member). Ends (Arrived came p r first n) group out x after.entries Whole) (sym n_is)
-    (subst (λ es. Ends (Arrived came p r first n) group out (destination U (with_range_of U b w) m) es Whole) (sym entries) ends)
+    → AtRange (Arrived state kept settled came p q first) units b rules group out (state q) w
+    → after.entries ≡ w.entries
+    → Arrives state kept settled came q r (destination units (with_range_of units b w) (state q) ∷ []) (destination units (with_range_of units b w) (state q))
+    → Ends (Arrived state kept settled came p r first) group out (state r) after.entries Whole
+range_end {P} {state} {kept} {settled} {came} {p} {q} {r} {units} {b} {rules} {group} {out} {first} {w} after on here entries step =
+    let m : Member = state q in
+    let ends : Ends (Arrived state kept settled came p r first) group out (destination units (with_range_of units b w) m) w.entries Whole =
+    finishing (Arrived state kept settled came p q first) (Arrived state kept settled came p r first) units b rules group out m w here.stands here.lays
+    (λ made arrived. arrived_on units true (with_range_of units b w) first made on arrived step) in
+    subst (λ (x : Member). Ends (Arrived state kept settled came p r first) group out x after.entries Whole) (sym step.at)
+    (subst (λ es. Ends (Arrived state kept settled came p r first) group out (destination units (with_range_of units b w) m) es Whole) (sym entries) ends)
 
-pub range_fault :
-    {U : ℕ} {P : Type 0} (came : P → P → List Member → Type 0) (broke : P → P → Member → Type 0) (p q r : P) (b : Batch) (rules : Rules) (group : ℕ) (out : Outcome) (first m : Member)
-    (w : WorkData) (refs : List (Bor (Item U))) (i : ℕ)
+pub range_breaks :
+    {P : Type 0} {state : P → Member} {kept : P → Option Member} {settled : P → Type 0} {came : P → P → List Member → Type 0}
+    {broke : P → P → Member → Type 0} {p q r : P}
+    {units : ℕ} {b : Batch} {rules : Rules} {group : ℕ} {out : Outcome} {first : Member} {w : WorkData}
     → ((x y z : P) (xs ys : List Member) → came x y xs → came y z ys → came x z (xs ++ ys))
-    → Stands (Arrived came p q first m) U b rules group out m w (drop i (seen_views refs)) → length refs ≤ i
-    → RangeLays U b w m
-    → CameInPart came broke q r (destination U (with_range_of U b w) m ∷ [])
-    → CameInPart came broke p r (committed group out.moments)
-range_fault {U} came broke p q r b rules group out first m w refs i on stands past laid fault =
-    let here : Stands (Arrived came p q first m) U b rules group out m w [] =
-    subst (λ (xs : List MemberItem). Stands (Arrived came p q first m) U b rules group out m w xs) (none_left refs i past) stands in
-    part_on came broke p q r (committed group here.moments) (destination U (with_range_of U b w) m ∷ []) (committed group out.moments)
-    on here.came.path fault (range_part (Arrived came p q first m) U b rules group out m w here laid)
+    → AtRange (Arrived state kept settled came p q first) units b rules group out (state q) w
+    → BreaksOff kept came broke q r (destination units (with_range_of units b w) (state q) ∷ []) (state q ∷ destination units (with_range_of units b w) (state q) ∷ [])
+    → BreaksOff kept came broke p r (committed group out.moments) (stops group first out.moments)
+range_breaks {P} {state} {kept} {settled} {came} {broke} {p} {q} {r} {units} {b} {rules} {group} {out} {first} {w} on here breaks =
+    breaks_part group first (committed group here.stands.moments) (destination units (with_range_of units b w) (state q) ∷ []) out.moments
+    on here.stands.came (range_part (Arrived state kept settled came p q first) units b rules group out (state q) w here.stands here.lays) breaks
 
-pub range_kept :
-    {U : ℕ} {P : Type 0} (came : P → P → List Member → Type 0) (p q : P) (kept : Option Member) (b : Batch) (rules : Rules) (group : ℕ) (out : Outcome) (first m : Member)
-    (w : WorkData) (refs : List (Bor (Item U))) (i : ℕ)
-    → Stands (Arrived came p q first m) U b rules group out m w (drop i (seen_views refs)) → length refs ≤ i
-    → RangeLays U b w m
-    → IsKeptIn kept (m ∷ destination U (with_range_of U b w) m ∷ [])
-    → IsKeptIn kept (stops group first out.moments)
-range_kept {U} came p q kept b rules group out first m w refs i stands past laid is =
-    let here : Stands (Arrived came p q first m) U b rules group out m w [] =
-    subst (λ (xs : List MemberItem). Stands (Arrived came p q first m) U b rules group out m w xs) (none_left refs i past) stands in
-    kept_on kept group first m (committed group here.moments) (destination U (with_range_of U b w) m ∷ []) out.moments
-    here.came.among is (range_part (Arrived came p q first m) U b rules group out m w here laid)
+-- A batch that has ended left the provider where its outcome says.
+pub ends_arrive :
+    {P : Type 0} {state : P → Member} {kept : P → Option Member} {settled : P → Type 0} {came : P → P → List Member → Type 0} {p r : P}
+    {group : ℕ} {out : Outcome} {first : Member} {entries : List Entry} {end : ApplyEnd}
+    → Ends (Arrived state kept settled came p r first) group out (state r) entries end
+    → Arrives state kept settled came p r (committed group out.moments) out.member
+ends_arrive {P} {state} {kept} {settled} {came} {p} {r} {group} {out} ends =
+    subst (λ (x : Member). Arrives state kept settled came p r (committed group out.moments) x) ends.state ends.came.path
 
--- A reading before the batch changes nothing of what a fault in it leaves.
-pub batch_fault :
-    {P : Type 0} (came : P → P → List Member → Type 0) (broke : P → P → Member → Type 0) (p q r : P) (units : ℕ) (b : Batch) (rules : Rules) (group : ℕ)
-    (had budget : Option ℕ) (n m : Member)
-    → ((x y z : P) (xs ys : List Member) → came x y xs → came y z ys → came x z (xs ++ ys))
-    → came p q [] → n ≡ m → had ≡ budget
-    → CameInPart came broke q r (committed group (applied units b rules had n).moments)
-    → CameInPart came broke p r (committed group (applied units b rules budget m).moments)
-batch_fault came broke p q r units b rules group had budget n m on read same same_budget fault =
-    read_before came broke p q r (committed group (applied units b rules budget m).moments) on read
-    (subst (λ (x : Member). CameInPart came broke q r (committed group (applied units b rules budget x).moments)) same
-    (subst (λ (o : Option ℕ). CameInPart came broke q r (committed group (applied units b rules o n).moments)) same_budget fault))
+-- A reading before the batch changes nothing of what comes of it.
+pub same_outcome :
+    (units : ℕ) (b : Batch) (rules : Rules) (had budget : Option ℕ) (n m : Member)
+    → n ≡ m → had ≡ budget → applied units b rules had n ≡ applied units b rules budget m
+same_outcome units b rules had budget n m same same_budget =
+    ap (λ (o : Option ℕ). applied units b rules o n) same_budget ∙ ap (applied units b rules budget) same
 
-pub batch_kept :
-    (kept : Option Member) (units : ℕ) (b : Batch) (rules : Rules) (group : ℕ) (had budget : Option ℕ) (n m : Member)
-    → n ≡ m → had ≡ budget
-    → IsKeptIn kept (stops group n (applied units b rules had n).moments) → IsKeptIn kept (stops group m (applied units b rules budget m).moments)
-batch_kept kept units b rules group had budget n m same same_budget is =
-    subst (λ (x : Member). IsKeptIn kept (stops group x (applied units b rules budget x).moments)) same
-    (subst (λ (o : Option ℕ). IsKeptIn kept (stops group n (applied units b rules o n).moments)) same_budget is)
-
--- Nor of what is told of the batch, and what the provider came by.
-pub batch_report :
-    (units : ℕ) (b : Batch) (rules : Rules) (had budget : Option ℕ) (n m : Member) (a : AppliedBatch)
-    → n ≡ m → had ≡ budget
-    → a ≡ applied_batch (applied units b rules had n) → a ≡ applied_batch (applied units b rules budget m)
-batch_report units b rules had budget n m a same same_budget is =
-    is ∙ ap (λ (o : Option ℕ). applied_batch (applied units b rules o n)) same_budget
-    ∙ ap (λ (x : Member). applied_batch (applied units b rules budget x)) same
-
-pub batch_came :
-    {P : Type 0} (came : P → P → List Member → Type 0) (p q r : P) (units : ℕ) (b : Batch) (rules : Rules) (group : ℕ)
-    (had budget : Option ℕ) (n m : Member)
+pub batch_arrives :
+    {P : Type 0} {state : P → Member} {kept : P → Option Member} {settled : P → Type 0} {came : P → P → List Member → Type 0} {p q r : P}
+    (units : ℕ) (b : Batch) (rules : Rules) (group : ℕ) (had budget : Option ℕ)
     → ((x y z : P) (xs : List Member) → came x y [] → came y z xs → came x z xs)
-    → came p q [] → n ≡ m → had ≡ budget
-    → came q r (committed group (applied units b rules had n).moments)
-    → came p r (committed group (applied units b rules budget m).moments)
-batch_came came p q r units b rules group had budget n m on read same same_budget is =
-    on p q r (committed group (applied units b rules budget m).moments) read
-    (subst (λ (x : Member). came q r (committed group (applied units b rules budget x).moments)) same
-    (subst (λ (o : Option ℕ). came q r (committed group (applied units b rules o n).moments)) same_budget is))
+    → Rests state kept settled came p q → had ≡ budget
+    → Arrives state kept settled came q r (committed group (applied units b rules had (state q)).moments) (applied units b rules had (state q)).member
+    → Arrives state kept settled came p r (committed group (applied units b rules budget (state p)).moments) (applied units b rules budget (state p)).member
+batch_arrives {P} {state} {kept} {settled} {came} {p} {q} {r} units b rules group had budget on rests same_budget arrives =
+    arrives_later on rests
+    (subst (λ (o : Outcome). Arrives state kept settled came q r (committed group o.moments) o.member)
+    (same_outcome units b rules had budget (state q) (state p) rests.same same_budget) arrives)
+
+pub batch_breaks :
+    {P : Type 0} {state : P → Member} {kept : P → Option Member} {settled : P → Type 0} {came : P → P → List Member → Type 0}
+    {broke : P → P → Member → Type 0} {p q r : P} (units : ℕ) (b : Batch) (rules : Rules) (group : ℕ) (had budget : Option ℕ)
+    → ((x y z : P) (xs ys : List Member) → came x y xs → came y z ys → came x z (xs ++ ys))
+    → Rests state kept settled came p q → had ≡ budget
+    → BreaksOff kept came broke q r (committed group (applied units b rules had (state q)).moments) (stops group (state q) (applied units b rules had (state q)).moments)
+    → BreaksOff kept came broke p r (committed group (applied units b rules budget (state p)).moments) (stops group (state p) (applied units b rules budget (state p)).moments)
+batch_breaks {P} {state} {kept} {settled} {came} {broke} {p} {q} {r} units b rules group had budget on rests same_budget breaks =
+    breaks_later on rests
+    (subst (λ (x : Member). BreaksOff kept came broke q r (committed group (applied units b rules budget x).moments) (stops group x (applied units b rules budget x).moments)) rests.same
+    (subst (λ (o : Option ℕ). BreaksOff kept came broke q r (committed group (applied units b rules o (state q)).moments) (stops group (state q) (applied units b rules o (state q)).moments)) same_budget breaks))

@@ -1,6 +1,5 @@
 -- How far a batch has come stands between the state at which it began and what comes of it.
-use Rattle.std.proofs.Common.{◌≡◌, ◌⊎◌, ℕ, ◌+◌, Bool, true, false, not, ◌&&◌, if◌then◌else◌, List, [], ◌∷◌, ◌++◌, append_assoc, length, map, Option, Some, None, Result, Ok, Err, inl, inr, refl, sym, ◌∙◌, ap, subst, arith, length-append}
-use Rattle.std.specs.Prelude.{IfSome, OnErr}
+use Rattle.std.proofs.Common.{◌≡◌, ℕ, ◌+◌, Bool, true, false, not, ◌&&◌, if◌then◌else◌, List, [], ◌∷◌, ◌++◌, append_assoc, length, map, Option, Some, None, inl, inr, refl, sym, ◌∙◌, ap, subst, arith, length-append}
 use Rattle.std.proofs.lemmas.List.{append-nil}
 use Rattle.sfx_model.specs.declared.apply_end.ApplyEnd.{ApplyEnd}
 use Rattle.sfx_model.specs.declared.apply_end.ApplyEnd.TheVariants.{Whole}
@@ -12,13 +11,14 @@ use Rattle.sfx_model.specs.Members.{MemberItem, Member}
 use Rattle.sfx_model.specs.Moments.{Moment, Applied, Learned, Stopped, committed, divides, stops}
 use Rattle.sfx_model.specs.Rules.{Rules}
 use Rattle.sfx_model.specs.Session.{AppliedBatch, Outcome, Progress, after_range, applied_batch, finished, go, is_more, lefts, stopped, with_entry}
-use Rattle.sfx_model.specs.Sets.{Has}
+use Rattle.sfx_model.specs.Sets.{Has, IsPart}
 use Rattle.sfx_model.proofs.Sets.{has_left, has_right}
 use Rattle.sfx_provider.specs.Commit.{CommitData, commit_of, committed as laid}
 use Rattle.sfx_provider.specs.Head.{head_of}
 use Rattle.sfx_provider.proofs.Heads.{unchanged_same}
-use Rattle.sfx_provider.specs.Course.{CameInPart}
-use Rattle.sfx_apply.specs.Turns.{IsKeptIn, WorkData, destination, end_before, entered, is_due, plan_at, state_if, states_if, turned, unless_ended, with_range_of, work_if}
+use Rattle.sfx_provider.specs.Leaves.{Arrives, BreaksOff, Rests}
+use Rattle.sfx_provider.proofs.LeavesLemmas.{arrives_later, arrives_on, breaks_later, breaks_on}
+use Rattle.sfx_apply.specs.Turns.{WorkData, destination, end_before, entered, is_due, plan_at, state_if, states_if, turned, unless_ended, with_range_of, work_if}
 use Rattle.sfx_apply.specs.Work.{KnowsNoMore, Waits}
 use Rattle.sfx_apply.proofs.Fitting.{made_waits, none_waits}
 use Rattle.sfx_apply.proofs.Groups.{Begins, among_stops, committed_append, committed_front, go_front, go_off, go_on, go_out}
@@ -377,60 +377,36 @@ range_part Came units b rules group out m w stands laid =
     (λ made is. ap (λ (xs : List Member). xs ++ last) is) in
     nothing_behind before last (committed group out.moments) ends.came
 
--- What a fault in a step leaves of the batch.
-pub part_on :
-    {P : Type 0} (came : P → P → List Member → Type 0) (broke : P → P → Member → Type 0) (p q r : P) (before step all : List Member)
-    → ((a b c : P) (xs ys : List Member) → came a b xs → came b c ys → came a c (xs ++ ys))
-    → came p q before → CameInPart came broke q r step → Part before step all
-    → CameInPart came broke p r all
-part_on {P} came broke p q r before step all on path (inl (made, left, joins, came_by)) part =
-    inl (
-      before ++ made,
-      left ++ part.rest,
-      append_assoc before made (left ++ part.rest)
-          ∙ ap (λ (xs : List Member). before ++ xs) (sym (append_assoc made left part.rest) ∙ ap (λ (xs : List Member). xs ++ part.rest) joins)
-          ∙ part.joins,
-      on p q r before made path came_by,
-    )
-part_on {P} came broke p q r before step all on path (inr (between, made, next, left, joins, came_by, broken)) part =
-    inr (
-      between,
-      before ++ made,
-      next,
-      left ++ part.rest,
-      append_assoc before made (next ∷ (left ++ part.rest))
-          ∙ ap (λ (xs : List Member). before ++ xs) (sym (append_assoc made (next ∷ left) part.rest) ∙ ap (λ (xs : List Member). xs ++ part.rest) joins)
-          ∙ part.joins,
-      on p q between before made path came_by,
-      broken,
-    )
-
--- A provider came by these states, and its state is one of them or the first.
-pub record Arrived {P : Type 0} (came : P → P → List Member → Type 0) (old new : P) (first now : Member) (made : List Member) : Type 0 where
-  pub path : came old new made
-  pub among : Has now (first ∷ made)
+-- A provider came by these states to where it is now, and that is one of them or the first.
+pub record Arrived
+    {P : Type 0} (state : P → Member) (kept : P → Option Member) (settled : P → Type 0)
+    (came : P → P → List Member → Type 0) (old new : P) (first : Member) (made : List Member) : Type 0 where
+  pub path : Arrives state kept settled came old new made (state new)
+  pub among : Has (state new) (first ∷ made)
 
 pub arrived_on :
-    {P : Type 0} (came : P → P → List Member → Type 0) (p q r : P) (units : ℕ) (due : Bool) (w : WorkData) (first m n : Member) (made : List Member)
+    {P : Type 0} {state : P → Member} {kept : P → Option Member} {settled : P → Type 0} {came : P → P → List Member → Type 0} {p q r : P}
+    (units : ℕ) (due : Bool) (w : WorkData) (first : Member) (made : List Member)
     → ((a b c : P) (xs ys : List Member) → came a b xs → came b c ys → came a c (xs ++ ys))
-    → Arrived came p q first m made → came q r (states_if units due w m) → n ≡ state_if units due w m
-    → Arrived came p r first n (made ++ states_if units due w m)
-arrived_on came p q r units due w first m n made on arrived step is = record {
-  path = on p q r made (states_if units due w m) arrived.path step;
-  among = subst (λ (x : Member). Has x (first ∷ (made ++ states_if units due w m))) (sym is) (by_due due);
-}
+    → Arrived state kept settled came p q first made
+    → Arrives state kept settled came q r (states_if units due w (state q)) (state_if units due w (state q))
+    → Arrived state kept settled came p r first (made ++ states_if units due w (state q))
+arrived_on {state = state} {kept = kept} {settled = settled} {came = came} {p = p} {q = q} {r = r} units due w first made on arrived step =
+    let path : Arrives state kept settled came p r (made ++ states_if units due w (state q)) (state_if units due w (state q)) =
+    arrives_on on arrived.path step in record {
+      path = record { at = refl; settles = path.settles; by = path.by; tells = path.tells };
+      among = subst (λ (x : Member). Has x (first ∷ (made ++ states_if units due w (state q)))) (sym step.at) (by_due due);
+    }
   where
-    by_due : (d : Bool) → Has (state_if units d w m) (first ∷ (made ++ states_if units d w m))
-    by_due true = inr (has_right (destination units w m) made (destination units w m ∷ []) (inl refl))
-    by_due false = elim arrived.among [ inl same ↦ inl same | inr has ↦ inr (has_left m made [] has) ]
+    by_due : (d : Bool) → Has (state_if units d w (state q)) (first ∷ (made ++ states_if units d w (state q)))
+    by_due true = inr (has_right (destination units w (state q)) made (destination units w (state q) ∷ []) (inl refl))
+    by_due false = elim arrived.among [ inl same ↦ inl same | inr has ↦ inr (has_left (state q) made [] has) ]
 
--- The kept state after a fault in a step.
-pub kept_on :
-    (kept : Option Member) (group : ℕ) (first now : Member) (before step : List Member) (moments : List Moment)
-    → Has now (first ∷ before) → IsKeptIn kept (now ∷ step) → Part before step (committed group moments)
-    → IsKeptIn kept (stops group first moments)
-kept_on None group first now before step moments among is part = tt
-kept_on (Some k) group first now before step moments among is part =
+-- A state of a step, or that before it, is one that a storage may be left at.
+part_within :
+    (group : ℕ) (first now : Member) (before step : List Member) (moments : List Moment)
+    → Has now (first ∷ before) → Part before step (committed group moments) → IsPart (now ∷ step) (stops group first moments)
+part_within group first now before step moments among part k is =
     among_stops group k first moments (subst (λ (xs : List Member). Has k (first ∷ xs)) part.joins (by_place is))
   where
     by_place : Has k (now ∷ step) → Has k (first ∷ (before ++ (step ++ part.rest)))
@@ -439,76 +415,59 @@ kept_on (Some k) group first now before step moments among is part =
         (elim among [ inl first_is ↦ inl first_is | inr there ↦ inr (has_left now before (step ++ part.rest) there) ])
     by_place (inr there) = inr (has_right k before (step ++ part.rest) (has_left k step part.rest there))
 
--- A fact holds whatever the answer is.
-pub on_err_anyhow : {T E Q : Type 0} (r : Result T E) → Q → OnErr r Q
-on_err_anyhow (Ok x) fact = tt
-on_err_anyhow (Err e) fact = fact
-
--- What a commit that failed leaves.
-pub commit_broke :
-    {P : Type 0} (came : P → P → List Member → Type 0) (broke : P → P → Member → Type 0) (p q : P) (units : ℕ) (due : Bool) (w : WorkData) (c : CommitData) (m : Member)
-    → due ≡ true → c ≡ w.pending → came p p [] → broke p q (laid units c m) → CameInPart came broke p q (states_if units due w m)
-commit_broke came broke p q units due w c m is same none broken =
-    subst (λ (d : Bool). CameInPart came broke p q (states_if units d w m)) (sym is)
-    (inr (p, [], destination units w m, [], refl, none, subst (λ (x : CommitData). broke p q (laid units x m)) same broken))
-
-pub commit_kept :
-    (kept : Option Member) (units : ℕ) (due : Bool) (w : WorkData) (c : CommitData) (m : Member)
-    → due ≡ true → c ≡ w.pending → IfSome kept (λ k. (k ≡ m) ⊎ (k ≡ laid units c m)) → IsKeptIn kept (m ∷ states_if units due w m)
-commit_kept None units due w c m is same either = tt
-commit_kept (Some k) units due w c m is same either =
-    subst (λ (d : Bool). Has k (m ∷ states_if units d w m)) (sym is)
-    (elim either [ inl old ↦ inl old | inr new ↦ inr (inl (new ∙ ap (λ (x : CommitData). laid units x m) same)) ])
-
--- Readings before a step change nothing of what a fault in it leaves.
-pub read_before :
-    {P : Type 0} (came : P → P → List Member → Type 0) (broke : P → P → Member → Type 0) (p q r : P) (states : List Member)
+-- What breaks off in a step breaks off in the batch.
+pub breaks_part :
+    {P : Type 0} {state : P → Member} {kept : P → Option Member} {settled : P → Type 0} {came : P → P → List Member → Type 0}
+    {broke : P → P → Member → Type 0} {p q r : P} (group : ℕ) (first : Member) (before step : List Member) (moments : List Moment)
     → ((a b c : P) (xs ys : List Member) → came a b xs → came b c ys → came a c (xs ++ ys))
-    → came p q [] → CameInPart came broke q r states → CameInPart came broke p r states
-read_before came broke p q r states on read fault =
-    part_on came broke p q r [] states states on read fault (record { rest = []; joins = append-nil states })
+    → Arrived state kept settled came p q first before → Part before step (committed group moments)
+    → BreaksOff kept came broke q r step (state q ∷ step)
+    → BreaksOff kept came broke p r (committed group moments) (stops group first moments)
+breaks_part {state = state} {q = q} group first before step moments on arrived part breaks =
+    breaks_on before step part.rest (committed group moments) (stops group first moments) on arrived.path breaks part.joins
+    (part_within group first (state q) before step moments arrived.among part)
 
--- A fault in the commit of a step, by the words of the step.
-pub step_fault :
-    {P : Type 0} (came : P → P → List Member → Type 0) (broke : P → P → Member → Type 0) (p q r : P) (units : ℕ) (due due' : Bool) (w w' : WorkData) (m m' : Member)
-    → ((a b c : P) (xs ys : List Member) → came a b xs → came b c ys → came a c (xs ++ ys))
-    → due ≡ due' → w ≡ w' → m ≡ m' → came p q [] → CameInPart came broke q r (states_if units due w m)
-    → CameInPart came broke p r (states_if units due' w' m')
-step_fault came broke p q r units due due' w w' m m' on same_due same_work same_state read fault =
-    read_before came broke p q r (states_if units due' w' m') on read
-    (subst (λ (x : Member). CameInPart came broke q r (states_if units due' w' x)) same_state
-    (subst (λ (x : WorkData). CameInPart came broke q r (states_if units due' x m)) same_work
-    (subst (λ (d : Bool). CameInPart came broke q r (states_if units d w m)) same_due fault)))
+-- What a commit that failed leaves, by the words of the step.
+pub commit_breaks :
+    {P : Type 0} {kept : P → Option Member} {came : P → P → List Member → Type 0} {broke : P → P → Member → Type 0} {p q : P}
+    (units : ℕ) (due : Bool) (w : WorkData) (c : CommitData) (m : Member)
+    → due ≡ true → c ≡ w.pending → BreaksOff kept came broke p q (laid units c m ∷ []) (m ∷ laid units c m ∷ [])
+    → BreaksOff kept came broke p q (states_if units due w m) (m ∷ states_if units due w m)
+commit_breaks {kept = kept} {came = came} {broke = broke} {p = p} {q = q} units due w c m is same breaks =
+    subst (λ (d : Bool). BreaksOff kept came broke p q (states_if units d w m) (m ∷ states_if units d w m)) (sym is)
+    (subst (λ (x : CommitData). BreaksOff kept came broke p q (laid units x m ∷ []) (m ∷ laid units x m ∷ [])) same breaks)
 
-pub step_kept :
-    (kept : Option Member) (units : ℕ) (due due' : Bool) (w w' : WorkData) (m m' : Member)
-    → due ≡ due' → w ≡ w' → m ≡ m' → IsKeptIn kept (m ∷ states_if units due w m) → IsKeptIn kept (m' ∷ states_if units due' w' m')
-step_kept kept units due due' w w' m m' same_due same_work same_state is =
-    subst (λ (x : Member). IsKeptIn kept (x ∷ states_if units due' w' x)) same_state
-    (subst (λ (x : WorkData). IsKeptIn kept (m ∷ states_if units due' x m)) same_work
-    (subst (λ (d : Bool). IsKeptIn kept (m ∷ states_if units d w m)) same_due is))
-
--- What a commit in a step leaves, by the words of the step.
+-- A commit in a step, by the words of the step: what it leaves, and what a fault in it does.
 pub step_work :
     (due due' : Bool) (w w' after : WorkData) → due ≡ due' → w ≡ w' → after ≡ work_if due w → after ≡ work_if due' w'
 step_work due due' w w' after same_due same_work is =
     is ∙ ap (λ (d : Bool). work_if d w) same_due ∙ ap (work_if due') same_work
 
-pub step_state :
-    (units : ℕ) (due due' : Bool) (w w' : WorkData) (m m' n : Member)
-    → due ≡ due' → w ≡ w' → m ≡ m' → n ≡ state_if units due w m → n ≡ state_if units due' w' m'
-step_state units due due' w w' m m' n same_due same_work same_state is =
-    is ∙ ap (λ (d : Bool). state_if units d w m) same_due ∙ ap (λ (x : WorkData). state_if units due' x m) same_work ∙ ap (state_if units due' w') same_state
-
-pub step_came :
-    {P : Type 0} (came : P → P → List Member → Type 0) (p q r : P) (units : ℕ) (due due' : Bool) (w w' : WorkData) (m m' : Member)
+pub step_arrives :
+    {P : Type 0} {state : P → Member} {kept : P → Option Member} {settled : P → Type 0} {came : P → P → List Member → Type 0} {p q r : P}
+    (units : ℕ) (due due' : Bool) (w w' : WorkData)
     → ((a b c : P) (xs : List Member) → came a b [] → came b c xs → came a c xs)
-    → due ≡ due' → w ≡ w' → m ≡ m' → came p q [] → came q r (states_if units due w m) → came p r (states_if units due' w' m')
-step_came came p q r units due due' w w' m m' on same_due same_work same_state read is =
-    on p q r (states_if units due' w' m') read
-    (subst (λ (x : Member). came q r (states_if units due' w' x)) same_state
-    (subst (λ (x : WorkData). came q r (states_if units due' x m)) same_work
-    (subst (λ (d : Bool). came q r (states_if units d w m)) same_due is)))
+    → due ≡ due' → w ≡ w' → Rests state kept settled came p q
+    → Arrives state kept settled came q r (states_if units due w (state q)) (state_if units due w (state q))
+    → Arrives state kept settled came p r (states_if units due' w' (state p)) (state_if units due' w' (state p))
+step_arrives {state = state} {kept = kept} {settled = settled} {came = came} {p = p} {q = q} {r = r} units due due' w w' on same_due same_work rests arrives =
+    arrives_later on rests
+    (subst (λ (x : Member). Arrives state kept settled came q r (states_if units due' w' x) (state_if units due' w' x)) rests.same
+    (subst (λ (x : WorkData). Arrives state kept settled came q r (states_if units due' x (state q)) (state_if units due' x (state q))) same_work
+    (subst (λ (d : Bool). Arrives state kept settled came q r (states_if units d w (state q)) (state_if units d w (state q))) same_due arrives)))
+
+pub step_breaks :
+    {P : Type 0} {state : P → Member} {kept : P → Option Member} {settled : P → Type 0} {came : P → P → List Member → Type 0}
+    {broke : P → P → Member → Type 0} {p q r : P} (units : ℕ) (due due' : Bool) (w w' : WorkData)
+    → ((a b c : P) (xs ys : List Member) → came a b xs → came b c ys → came a c (xs ++ ys))
+    → due ≡ due' → w ≡ w' → Rests state kept settled came p q
+    → BreaksOff kept came broke q r (states_if units due w (state q)) (state q ∷ states_if units due w (state q))
+    → BreaksOff kept came broke p r (states_if units due' w' (state p)) (state p ∷ states_if units due' w' (state p))
+step_breaks {state = state} {kept = kept} {came = came} {broke = broke} {p = p} {q = q} {r = r} units due due' w w' on same_due same_work rests breaks =
+    breaks_later on rests
+    (subst (λ (x : Member). BreaksOff kept came broke q r (states_if units due' w' x) (x ∷ states_if units due' w' x)) rests.same
+    (subst (λ (x : WorkData). BreaksOff kept came broke q r (states_if units due' x (state q)) (state q ∷ states_if units due' x (state q))) same_work
+    (subst (λ (d : Bool). BreaksOff kept came broke q r (states_if units d w (state q)) (state q ∷ states_if units d w (state q))) same_due breaks)))
 
 -- Whether a commit is due, by the words of the step.
 pub same_due :

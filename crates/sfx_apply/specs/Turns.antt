@@ -1,5 +1,5 @@
 -- The turns of a batch: each change in its turn, and the commits between them.
-use Rattle.std.specs.Prelude.{ℕ, Bool, true, not, ◌&&◌, if◌then◌else◌, List, [], ◌∷◌, ◌++◌, map, length, Option, Some, None, IfSome}
+use Rattle.std.specs.Prelude.{ℕ, Bool, true, not, ◌&&◌, if◌then◌else◌, List, [], ◌∷◌, ◌++◌, map, length, Option, Some, None}
 use Rattle.std.specs.Borrow.{Bor}
 use Rattle.std.specs.List.{filter}
 use Rattle.sfx_ids.specs.declared.item_id.ItemId.{ItemId}
@@ -16,7 +16,6 @@ use Rattle.sfx_model.specs.Moments.{divides}
 use Rattle.sfx_model.specs.NewName.{is_free}
 use Rattle.sfx_model.specs.Rules.{Rules}
 use Rattle.sfx_model.specs.Session.{is_live_state, lefts, reduced, stop_before}
-use Rattle.sfx_model.specs.Sets.{Has}
 use Rattle.sfx_provider.specs.Commit.{CommitData, commit_of, committed}
 use Rattle.sfx_provider.specs.Head.{head_of}
 use Rattle.sfx_apply.specs.Work.{cleared, with_marks, with_range}
@@ -127,7 +126,3 @@ next_state units group b rules change more w m =
 abbrev pub next_states : ℕ → ℕ → Batch → Rules → MemberItem → Bool → WorkData → Member → List Member
 next_states units group b rules change more w m =
     states_if units (due_after units group b rules change more w m) (turned units b rules change w m) m
-
--- The kept state, where it is told, is one of these.
-abbrev pub IsKeptIn : Option Member → List Member → Type 0
-IsKeptIn kept states = IfSome kept (λ k. Has k states)

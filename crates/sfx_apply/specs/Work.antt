@@ -12,7 +12,7 @@ use Rattle.sfx_model.specs.declared.mark.Mark.{Mark}
 use Rattle.sfx_model.specs.declared.mark.Mark.TheVariants.{Stays}
 use Rattle.sfx_model.specs.Batch.{Batch}
 use Rattle.sfx_model.specs.Class.{Class, AllKnown, TakeWhole, Units, WholeConflict}
-use Rattle.sfx_model.specs.Entry.{is_taken, left_from, no_cell}
+use Rattle.sfx_model.specs.Entry.{Entry, is_taken, kind_of_marks, left_from, no_cell}
 use Rattle.sfx_model.specs.Knowing.{learned_known}
 use Rattle.sfx_model.specs.Members.{ItemState, Live, Dead, MemberItem, Member}
 use Rattle.sfx_model.specs.Putting.{put_item}
@@ -50,6 +50,10 @@ with_marks units b change marks here c = record {
   puts = put_taken units marks change here c.puts;
   drops = c.drops;
 }
+
+-- The entry of an item with these marks, where conflicts are left alone.
+abbrev pub quiet_entry : ItemId → List Mark → Entry
+quiet_entry i marks = record { item = i; kind = kind_of_marks marks; marks = marks; tick = None; name = None; others = [] }
 
 -- The commit with the batch's range, but for these units.
 abbrev pub with_range : ℕ → Batch → List (ItemId × ℕ) → CommitData → CommitData

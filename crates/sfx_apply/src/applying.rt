@@ -1,19 +1,19 @@
-ghost use Rattle.std.specs.Prelude.{◌≡◌, ◌≤◌, IfOk, IfSome, IsSome, OnOk, OnErr};
-ghost use Rattle.sfx_apply.specs.Fault.{HasCause, IsNotAhead, TellsAhead, Untouched};
+ghost use Rattle.std.specs.Prelude.{◌≡◌, ◌≤◌, IfOk, OnOk, OnErr};
+ghost use Rattle.sfx_apply.specs.Fault.{RefusesAtRest, blames_provider, is_ahead, refusal_of};
 ghost use Rattle.sfx_apply.specs.Rules.{LeavesConflicts};
-ghost use Rattle.sfx_apply.specs.Turns.{IsKeptIn, in_turn, seen_views, work_begun};
+ghost use Rattle.sfx_apply.specs.Turns.{in_turn, seen_views, work_begun};
 ghost use Rattle.sfx_apply.specs.Work.{KnowsNoMore, Waits};
-ghost use Rattle.sfx_model.specs.Acting.{Brings, DeedsActIn, IsOrderly};
+ghost use Rattle.sfx_model.specs.Acting.{Brings, DeedsActIn};
 ghost use Rattle.sfx_model.specs.Deeds.{batch_deeds};
-ghost use Rattle.sfx_model.specs.Knowing.{ahead_of};
 ghost use Rattle.sfx_model.specs.Members.{Member};
 ghost use Rattle.sfx_model.specs.Moments.{committed, stops};
 ghost use Rattle.sfx_model.specs.Session.{applied, applied_batch};
 ghost use Rattle.sfx_model.specs.World.{World};
 ghost use Rattle.sfx_model.specs.declared.mode.Mode.TheVariants.{Normal};
-ghost use Rattle.sfx_provider.specs.Course.{CameInPart};
-ghost use Rattle.sfx_provider.specs.Fault.{HasCause as HasProviderCause};
+ghost use Rattle.sfx_provider.specs.Answer.{IsNever, Refuses};
+ghost use Rattle.sfx_provider.specs.Fault.{HasCause, blames_storage};
 ghost use Rattle.sfx_provider.specs.Head.{head_of};
+ghost use Rattle.sfx_provider.specs.Leaves.{Arrives, BreaksOff, Rests};
 ghost use Rattle.sfx_settle.specs.Rules.{rules_view};
 
 use crate::ordering::in_turn;
@@ -28,9 +28,11 @@ use sfx_settle::{Merger, Rules};
 use std::alloc::Global;
 
 /// Applies a batch to the replica of a provider by these rules: what the source sent is brought, change by
-/// change, and then the destination knows of the batch's range what the source knows, but for the
-/// units that were left alone. The deletions come first, and then the live changes, each in order of their
-/// ids; each is judged by what the replica holds at that moment. What was done is told, entry by entry.
+/// change, and then the destination knows of the batch's range what the source knows, but for the units that
+/// were left alone. The deletions come first, and then the live changes, each in order of their ids; each is
+/// judged by what the replica holds at that moment. What was done is told, entry by entry.
+///
+/// For now the rules have to leave each conflict alone (`skip`), and the batch has to be one of mode Normal.
 ///
 /// The replica is changed by commits: one after each `group` entries while changes are left, and one at the
 /// end of the batch. With a `budget` no more than so many entries are applied; where changes are left then,
@@ -47,7 +49,7 @@ use std::alloc::Global;
 /// - `Ahead` exactly where the batch knows or has forgotten a greater tick of the replica than its clock;
 ///   `tick` is the greatest one. Nothing has changed then.
 /// - `Provider`, only where the provider's count of faults rose, and `Memory`. The commits that were made
-///   stand, and the next one may have broken off.
+///   stand, and the next one may have broken off; what is kept is a state that such a batch passes.
 pub fn apply_batch<const U: usize, P: Provider<U>, M: Merger>(
     alloc: Global,
     provider: &mut P,
@@ -56,33 +58,30 @@ pub fn apply_batch<const U: usize, P: Provider<U>, M: Merger>(
     group: u64,
     budget: Option<u64>,
 ) -> Result<Applied<U>, ApplyFault>
-    requires told { IfSome (P.kept provider.old) (λ k. k ≡ P.state provider.old) }
+    requires settled { P.settled provider.old }
     requires skip { LeavesConflicts (rules_view M.meaning rules.now) }
     requires normal { batch.now.mode ≡ Normal }
     requires group { 1 ≤ group }
     ensures report { let o = applied U batch.now (rules_view M.meaning rules.now) budget (P.state provider.old) in
         IfOk result (λ a. a ≡ applied_batch o) }
-    ensures state { let o = applied U batch.now (rules_view M.meaning rules.now) budget (P.state provider.old) in
-        OnOk result (P.state provider.new ≡ o.member) }
-    ensures told { OnOk result (IfSome (P.kept provider.new) (λ k. k ≡ P.state provider.new)) }
-    ensures came { let o = applied U batch.now (rules_view M.meaning rules.now) budget (P.state provider.old) in
-        OnOk result (P.came provider.old provider.new (committed group o.moments)) }
-    ensures fault { let o = applied U batch.now (rules_view M.meaning rules.now) budget (P.state provider.old) in
-        OnErr result (CameInPart P.came P.broke provider.old provider.new (committed group o.moments)) }
-    ensures kept { let o = applied U batch.now (rules_view M.meaning rules.now) budget (P.state provider.old) in
-        OnErr result (IsKeptIn (P.kept provider.new) (stops group (P.state provider.old) o.moments)) }
+    ensures arrives { let o = applied U batch.now (rules_view M.meaning rules.now) budget (P.state provider.old) in
+        let made = committed group o.moments in
+        OnOk result (Arrives P.state P.kept P.settled P.came provider.old provider.new made o.member) }
+    ensures breaks_off { let o = applied U batch.now (rules_view M.meaning rules.now) budget (P.state provider.old) in
+        let made = committed group o.moments in
+        let ends = stops group (P.state provider.old) o.moments in
+        OnErr result (BreaksOff P.kept P.came P.broke provider.old provider.new made ends) }
+    ensures ahead { let still = Rests P.state P.kept P.settled P.came provider.old provider.new in
+        RefusesAtRest still (refusal_of (P.state provider.old) batch.now) result }
     ensures acts { let m = P.state provider.old in
         let deeds = batch_deeds U batch.now (rules_view M.meaning rules.now) budget m in
         OnOk result ((w : World) (source : Member) → Brings w U source m batch.now →
         DeedsActIn w deeds source m.id (P.state provider.new)) }
-    ensures ahead { let m = P.state provider.old in
-        TellsAhead (ahead_of m batch.now.made_with batch.now.forgotten) m.clock result }
     ensures not_ahead { (w : World) (source : Member) → Brings w U source (P.state provider.old) batch.now →
-        IsNotAhead result }
-    ensures untouched { IsSome (ahead_of (P.state provider.old) batch.now.made_with batch.now.forgotten) →
-        Untouched P.state P.kept P.came provider.old provider.new }
-    ensures cause { HasCause (P.faults provider.old) (P.faults provider.new) result }
+        IsNever is_ahead result }
+    ensures cause { HasCause blames_provider (P.faults provider.old) (P.faults provider.new) result }
 {
+    provider.keeps();
     let work = begin(alloc, provider, batch, budget)?;
     match apply_changes(alloc, provider, batch, rules, group, work) {
         Ok(applied) => Ok(applied),
@@ -102,22 +101,17 @@ fn begin<const U: usize, P: Provider<U>>(
     batch: &Batch<U>,
     budget: Option<u64>,
 ) -> Result<Work<U>, ApplyFault>
-    requires told { IfSome (P.kept provider.old) (λ k. k ≡ P.state provider.old) }
     ensures begun { IfOk result (λ work. work ≡ work_begun U work.budget (P.state provider.new)) }
     ensures budget { IfOk result (λ work. work.budget ≡ budget) }
     ensures waits { IfOk result (λ work. Waits U work.pending (P.state provider.new)) }
     ensures no_more { OnOk result (KnowsNoMore U (P.state provider.new) batch.now) }
-    ensures orderly { OnOk result (IsOrderly U (P.state provider.old)) }
-    ensures ahead { let m = P.state provider.old in
-        TellsAhead (ahead_of m batch.now.made_with batch.now.forgotten) m.clock result }
-    ensures told { IfSome (P.kept provider.new) (λ k. k ≡ P.state provider.new) }
-    ensures untouched { Untouched P.state P.kept P.came provider.old provider.new }
-    ensures cause { HasCause (P.faults provider.old) (P.faults provider.new) result }
+    ensures ahead { Refuses is_ahead result (refusal_of (P.state provider.old) batch.now) }
+    ensures rests { Rests P.state P.kept P.settled P.came provider.old provider.new }
+    ensures cause { HasCause blames_provider (P.faults provider.old) (P.faults provider.new) result }
 {
     batch.keeps();
     provider.keeps();
     let head = head_of(alloc, provider)?;
-    let _in_form = head.forgotten.vector();
     let tick = most_known(&batch.made_with, &batch.forgotten, &head.id);
     let clock = head.clock;
     if tick > clock {
@@ -139,9 +133,9 @@ fn head_of<const U: usize, P: Provider<U>>(
     provider: &mut P,
 ) -> Result<Head<U>, ApplyFault>
     ensures value { IfOk result (λ head. head ≡ head_of U (P.state provider.old)) }
-    ensures not_ahead { IsNotAhead result }
-    ensures untouched { Untouched P.state P.kept P.came provider.old provider.new }
-    ensures cause { HasCause (P.faults provider.old) (P.faults provider.new) result }
+    ensures not_ahead { IsNever is_ahead result }
+    ensures rests { Rests P.state P.kept P.settled P.came provider.old provider.new }
+    ensures cause { HasCause blames_provider (P.faults provider.old) (P.faults provider.new) result }
 {
     match provider.head(alloc) {
         Ok(head) => Ok(head),
@@ -159,7 +153,7 @@ fn apply_changes<const U: usize, P: Provider<U>, M: Merger>(
     group: u64,
     mut work: Work<U>,
 ) -> Result<Applied<U>, ProviderFault>
-    requires told { IfSome (P.kept provider.old) (λ k. k ≡ P.state provider.old) }
+    requires settled { P.settled provider.old }
     requires skip { LeavesConflicts (rules_view M.meaning rules.now) }
     requires normal { batch.now.mode ≡ Normal }
     requires no_more { KnowsNoMore U (P.state provider.old) batch.now }
@@ -168,20 +162,15 @@ fn apply_changes<const U: usize, P: Provider<U>, M: Merger>(
     ensures report { let rules = rules_view M.meaning rules.now in
         let out = applied U batch.now rules work.entry.budget (P.state provider.old) in
         IfOk result (λ a. a ≡ applied_batch out) }
-    ensures state { let rules = rules_view M.meaning rules.now in
+    ensures arrives { let rules = rules_view M.meaning rules.now in
         let out = applied U batch.now rules work.entry.budget (P.state provider.old) in
-        OnOk result (P.state provider.new ≡ out.member) }
-    ensures told { OnOk result (IfSome (P.kept provider.new) (λ k. k ≡ P.state provider.new)) }
-    ensures came { let rules = rules_view M.meaning rules.now in
+        OnOk result (Arrives P.state P.kept P.settled P.came provider.old provider.new
+        (committed group out.moments) out.member) }
+    ensures breaks_off { let rules = rules_view M.meaning rules.now in
         let out = applied U batch.now rules work.entry.budget (P.state provider.old) in
-        OnOk result (P.came provider.old provider.new (committed group out.moments)) }
-    ensures fault { let rules = rules_view M.meaning rules.now in
-        let out = applied U batch.now rules work.entry.budget (P.state provider.old) in
-        OnErr result (CameInPart P.came P.broke provider.old provider.new (committed group out.moments)) }
-    ensures kept { let rules = rules_view M.meaning rules.now in
-        let out = applied U batch.now rules work.entry.budget (P.state provider.old) in
-        OnErr result (IsKeptIn (P.kept provider.new) (stops group (P.state provider.old) out.moments)) }
-    ensures cause { HasProviderCause (P.faults provider.old) (P.faults provider.new) result }
+        OnErr result (BreaksOff P.kept P.came P.broke provider.old provider.new
+        (committed group out.moments) (stops group (P.state provider.old) out.moments)) }
+    ensures cause { HasCause blames_storage (P.faults provider.old) (P.faults provider.new) result }
 {
     provider.keeps();
     let turns = in_turn(alloc, batch)?;
@@ -207,7 +196,7 @@ fn apply_turns<const U: usize, P: Provider<U>, M: Merger>(
     group: u64,
     work: &mut Work<U>,
 ) -> Result<ApplyEnd, ProviderFault>
-    requires told { IfSome (P.kept provider.old) (λ k. k ≡ P.state provider.old) }
+    requires settled { P.settled provider.old }
     requires skip { LeavesConflicts (rules_view M.meaning rules.now) }
     requires normal { batch.now.mode ≡ Normal }
     requires no_more { KnowsNoMore U (P.state provider.old) batch.now }
@@ -217,20 +206,15 @@ fn apply_turns<const U: usize, P: Provider<U>, M: Merger>(
     ensures report { let rules = rules_view M.meaning rules.now in
         let out = applied U batch.now rules work.old.budget (P.state provider.old) in
         IfOk result (λ end. record { entries = work.new.entries; end = end } ≡ applied_batch out) }
-    ensures state { let rules = rules_view M.meaning rules.now in
+    ensures arrives { let rules = rules_view M.meaning rules.now in
         let out = applied U batch.now rules work.old.budget (P.state provider.old) in
-        OnOk result (P.state provider.new ≡ out.member) }
-    ensures told { OnOk result (IfSome (P.kept provider.new) (λ k. k ≡ P.state provider.new)) }
-    ensures came { let rules = rules_view M.meaning rules.now in
+        OnOk result (Arrives P.state P.kept P.settled P.came provider.old provider.new
+        (committed group out.moments) out.member) }
+    ensures breaks_off { let rules = rules_view M.meaning rules.now in
         let out = applied U batch.now rules work.old.budget (P.state provider.old) in
-        OnOk result (P.came provider.old provider.new (committed group out.moments)) }
-    ensures fault { let rules = rules_view M.meaning rules.now in
-        let out = applied U batch.now rules work.old.budget (P.state provider.old) in
-        OnErr result (CameInPart P.came P.broke provider.old provider.new (committed group out.moments)) }
-    ensures kept { let rules = rules_view M.meaning rules.now in
-        let out = applied U batch.now rules work.old.budget (P.state provider.old) in
-        OnErr result (IsKeptIn (P.kept provider.new) (stops group (P.state provider.old) out.moments)) }
-    ensures cause { HasProviderCause (P.faults provider.old) (P.faults provider.new) result }
+        OnErr result (BreaksOff P.kept P.came P.broke provider.old provider.new
+        (committed group out.moments) (stops group (P.state provider.old) out.moments)) }
+    ensures cause { HasCause blames_storage (P.faults provider.old) (P.faults provider.new) result }
 {
     batch.keeps();
     provider.keeps();

@@ -44,7 +44,7 @@ impl<const U: usize> Entry<U> {
 
     /// The entry in its own memory, with these marks in the place of its own.
     fn with_marks(&self, alloc: Global, marks: Marks<U>) -> Result<Self, Memory>
-        ensures { IfOk result (λ copied. copied ≡ record { item = self.now.item; kind = self.now.kind; marks = marks.entry; tick = self.now.tick; name = self.now.name; others = self.now.others }) }
+        ensures { IfOk result (λ copied. copied ≡ record self.now { marks = marks.entry }) }
     {
         let (name, others) = self.copied_rest(alloc)?;
         Ok(Entry {

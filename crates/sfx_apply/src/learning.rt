@@ -25,7 +25,9 @@ pub(crate) fn learned_item<const U: usize>(
     requires some { 1 ≤ U }
     requires known { IsKnowledge U known.now }
     requires made_with { IsKnowledge U made_with.now }
-    ensures { IfOk result (λ learned. learned ≡ learned_known U (At id.now) (After id.now) (left_from id.now 0 marks.now) known.now made_with.now) }
+    ensures { let left = left_from id.now 0 marks.now in
+        let all = learned_known U (At id.now) (After id.now) left known.now made_with.now in
+        IfOk result (λ learned. learned ≡ all) }
 {
     let left = left_of(alloc, id, marks)?;
     known.learn_item(alloc, made_with, id, &left)
@@ -44,7 +46,8 @@ pub(crate) fn learned_range<const U: usize>(
     requires some { 1 ≤ U }
     requires known { IsKnowledge U known.now }
     requires made_with { IsKnowledge U made_with.now }
-    ensures { IfOk result (λ learned. learned ≡ learned_known U lo.now hi.now (lefts entries.now) known.now made_with.now) }
+    ensures { let all = learned_known U lo.now hi.now (lefts entries.now) known.now made_with.now in
+        IfOk result (λ learned. learned ≡ all) }
 {
     let left = left_by(alloc, entries)?;
     known.learn(alloc, made_with, lo, hi, &left)

@@ -9,7 +9,8 @@ ghost use Rattle.sfx_model.specs.Items.{item_view, items_view, state_view};
 ghost use Rattle.sfx_model.specs.Members.{state_of};
 ghost use Rattle.sfx_model.specs.Readings.{is_clashing, is_in_the_way};
 ghost use Rattle.sfx_model.specs.NewName.{is_free};
-ghost use Rattle.sfx_provider.specs.Fault.{HasCause};
+ghost use Rattle.sfx_provider.specs.Fault.{HasCause, blames_storage};
+ghost use Rattle.sfx_provider.specs.Leaves.{Rests};
 
 use crate::puts::put_of;
 use crate::work::Work;
@@ -50,11 +51,10 @@ pub(crate) fn is_free<const U: usize, P: Provider<U>>(
     id: &ItemId,
 ) -> Result<bool, ProviderFault>
     requires waits { Waits U work.now.pending (P.state provider.old) }
-    ensures value { IfOk result (λ free. free ≡ is_free (destination U work.now (P.state provider.old)).items id.now name.now) }
-    ensures state { P.state provider.new ≡ P.state provider.old }
-    ensures kept { P.kept provider.new ≡ P.kept provider.old }
-    ensures came { P.came provider.old provider.new [] }
-    ensures cause { HasCause (P.faults provider.old) (P.faults provider.new) result }
+    ensures value { let m = destination U work.now (P.state provider.old) in
+        IfOk result (λ free. free ≡ is_free m.items id.now name.now) }
+    ensures rests { Rests P.state P.kept P.settled P.came provider.old provider.new }
+    ensures cause { HasCause blames_storage (P.faults provider.old) (P.faults provider.new) result }
 {
     provider.keeps();
     let puts = work.puts();

@@ -38,7 +38,8 @@ fn add_dead<'a, const U: usize>(
     turns: &mut Vec<&'a Item<U>>,
     changes: &'a [Item<U>],
 ) -> Result<(), Memory>
-    ensures { OnOk result (seen_views turns.new.items ≡ seen_views turns.old.items ++ filter (λ x. not (is_live_state x.state)) (items_view changes.now)) }
+    ensures { let dead = filter (λ x. not (is_live_state x.state)) (items_view changes.now) in
+        OnOk result (seen_views turns.new.items ≡ seen_views turns.old.items ++ dead) }
 {
     for change in changes {
         if !is_live(change) {
@@ -53,7 +54,8 @@ fn add_live<'a, const U: usize>(
     turns: &mut Vec<&'a Item<U>>,
     changes: &'a [Item<U>],
 ) -> Result<(), Memory>
-    ensures { OnOk result (seen_views turns.new.items ≡ seen_views turns.old.items ++ filter (λ x. is_live_state x.state) (items_view changes.now)) }
+    ensures { let live = filter (λ x. is_live_state x.state) (items_view changes.now) in
+        OnOk result (seen_views turns.new.items ≡ seen_views turns.old.items ++ live) }
 {
     for change in changes {
         if is_live(change) {

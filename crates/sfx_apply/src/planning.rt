@@ -10,7 +10,8 @@ ghost use Rattle.sfx_model.specs.Consistent.{IsItemState};
 ghost use Rattle.sfx_model.specs.Items.{item_view, state_view};
 ghost use Rattle.sfx_model.specs.Members.{state_of};
 ghost use Rattle.sfx_model.specs.declared.mode.Mode.TheVariants.{Normal};
-ghost use Rattle.sfx_provider.specs.Fault.{HasCause};
+ghost use Rattle.sfx_provider.specs.Fault.{HasCause, blames_storage};
+ghost use Rattle.sfx_provider.specs.Leaves.{Rests};
 ghost use Rattle.sfx_settle.specs.Rules.{rules_view};
 
 use crate::drafting::drafted;
@@ -43,10 +44,8 @@ pub(crate) fn planned<const U: usize, P: Provider<U>, M: Merger>(
     ensures value { let m = destination U work.now (P.state provider.old) in
         let rules = rules_view M.meaning rules.now in
         IfOk result (λ draft. draft ≡ (plan_at U batch.now rules (item_view change.now) m).draft) }
-    ensures state { P.state provider.new ≡ P.state provider.old }
-    ensures kept { P.kept provider.new ≡ P.kept provider.old }
-    ensures came { P.came provider.old provider.new [] }
-    ensures cause { HasCause (P.faults provider.old) (P.faults provider.new) result }
+    ensures rests { Rests P.state P.kept P.settled P.came provider.old provider.new }
+    ensures cause { HasCause blames_storage (P.faults provider.old) (P.faults provider.new) result }
 {
     provider.keeps();
     let draft = drafted(alloc, work, batch, rules, change, local)?;
@@ -66,10 +65,8 @@ fn has_free_name<const U: usize, P: Provider<U>>(
     requires name { (name : List ℕ) → drafted_name draft.now ≡ Some name → IsName name }
     ensures value { let m = destination U work.now (P.state provider.old) in
         IfOk result (λ free. free ≡ is_free_or_none m.items id.now (drafted_name draft.now)) }
-    ensures state { P.state provider.new ≡ P.state provider.old }
-    ensures kept { P.kept provider.new ≡ P.kept provider.old }
-    ensures came { P.came provider.old provider.new [] }
-    ensures cause { HasCause (P.faults provider.old) (P.faults provider.new) result }
+    ensures rests { Rests P.state P.kept P.settled P.came provider.old provider.new }
+    ensures cause { HasCause blames_storage (P.faults provider.old) (P.faults provider.new) result }
 {
     provider.keeps();
     let drafted = drafted_name(alloc, draft)?;

@@ -5,7 +5,8 @@ ghost use Rattle.sfx_apply.specs.Turns.{destination};
 ghost use Rattle.sfx_apply.specs.Work.{Waits};
 ghost use Rattle.sfx_model.specs.Items.{state_view};
 ghost use Rattle.sfx_model.specs.Members.{state_of};
-ghost use Rattle.sfx_provider.specs.Fault.{HasCause};
+ghost use Rattle.sfx_provider.specs.Fault.{HasCause, blames_storage};
+ghost use Rattle.sfx_provider.specs.Leaves.{Rests};
 
 use crate::puts::put_of;
 use crate::work::Work;
@@ -22,11 +23,10 @@ pub(crate) fn item_now<const U: usize, P: Provider<U>>(
     id: &ItemId,
 ) -> Result<Option<Item<U>>, ProviderFault>
     requires waits { Waits U work.now.pending (P.state provider.old) }
-    ensures value { IfOk result (λ item. option_map (λ x. state_view x.state) item ≡ state_of (destination U work.now (P.state provider.old)).items id.now) }
-    ensures state { P.state provider.new ≡ P.state provider.old }
-    ensures kept { P.kept provider.new ≡ P.kept provider.old }
-    ensures came { P.came provider.old provider.new [] }
-    ensures cause { HasCause (P.faults provider.old) (P.faults provider.new) result }
+    ensures value { let m = destination U work.now (P.state provider.old) in
+        IfOk result (λ item. option_map (λ x. state_view x.state) item ≡ state_of m.items id.now) }
+    ensures rests { Rests P.state P.kept P.settled P.came provider.old provider.new }
+    ensures cause { HasCause blames_storage (P.faults provider.old) (P.faults provider.new) result }
 {
     match put_of(work.puts(), id) {
         Some(put) => Ok(Some(put.copy(alloc)?)),

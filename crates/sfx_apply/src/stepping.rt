@@ -1,14 +1,14 @@
 //! The steps of a batch: the changes, and the range at its end, each with the commit that follows.
-ghost use Rattle.std.specs.Prelude.{◌≡◌, ◌≤◌, ◌∷◌, [], length, IfOk, IfSome, OnOk, OnErr};
+ghost use Rattle.std.specs.Prelude.{◌≡◌, ◌≤◌, ◌∷◌, [], length, IfOk, OnOk, OnErr};
 ghost use Rattle.sfx_apply.specs.Rules.{LeavesConflicts};
-ghost use Rattle.sfx_apply.specs.Turns.{IsKeptIn, destination, end_before, is_due, next_state, next_states, next_work, with_range_of};
+ghost use Rattle.sfx_apply.specs.Turns.{destination, end_before, is_due, next_state, next_states, next_work, with_range_of};
 ghost use Rattle.sfx_apply.specs.Work.{KnowsNoMore, Waits};
 ghost use Rattle.sfx_model.specs.Batch.{IsSent};
 ghost use Rattle.sfx_model.specs.Consistent.{IsConsistent};
 ghost use Rattle.sfx_model.specs.Items.{item_view, state_view};
 ghost use Rattle.sfx_model.specs.declared.mode.Mode.TheVariants.{Normal};
-ghost use Rattle.sfx_provider.specs.Course.{CameInPart};
-ghost use Rattle.sfx_provider.specs.Fault.{HasCause};
+ghost use Rattle.sfx_provider.specs.Fault.{HasCause, blames_storage};
+ghost use Rattle.sfx_provider.specs.Leaves.{Arrives, BreaksOff};
 ghost use Rattle.sfx_settle.specs.Rules.{rules_view};
 
 use crate::committing::commit_if;
@@ -32,7 +32,7 @@ pub(crate) fn change_step<const U: usize, P: Provider<U>, M: Merger>(
     group: u64,
     more: bool,
 ) -> Result<Option<ApplyEnd>, ProviderFault>
-    requires told { IfSome (P.kept provider.old) (λ k. k ≡ P.state provider.old) }
+    requires settled { P.settled provider.old }
     requires waits { Waits U work.old.pending (P.state provider.old) }
     requires skip { LeavesConflicts (rules_view M.meaning rules.now) }
     requires normal { batch.now.mode ≡ Normal }
@@ -45,21 +45,15 @@ pub(crate) fn change_step<const U: usize, P: Provider<U>, M: Merger>(
     ensures work { let rules = rules_view M.meaning rules.now in
         let m = P.state provider.old in
         OnOk result (work.new ≡ next_work U group batch.now rules (item_view change.now) more work.old m) }
-    ensures state { let rules = rules_view M.meaning rules.now in
+    ensures arrives { let rules = rules_view M.meaning rules.now in
+        let made = next_states U group batch.now rules (item_view change.now) more work.old (P.state provider.old) in
         let last = next_state U group batch.now rules (item_view change.now) more work.old (P.state provider.old) in
-        OnOk result (P.state provider.new ≡ last) }
-    ensures told { OnOk result (IfSome (P.kept provider.new) (λ k. k ≡ P.state provider.new)) }
-    ensures came { let rules = rules_view M.meaning rules.now in
+        OnOk result (Arrives P.state P.kept P.settled P.came provider.old provider.new made last) }
+    ensures breaks_off { let rules = rules_view M.meaning rules.now in
         let made = next_states U group batch.now rules (item_view change.now) more work.old (P.state provider.old) in
-        OnOk result (P.came provider.old provider.new made) }
-    ensures fault { let rules = rules_view M.meaning rules.now in
-        let made = next_states U group batch.now rules (item_view change.now) more work.old (P.state provider.old) in
-        OnErr result (CameInPart P.came P.broke provider.old provider.new made) }
-    ensures kept { let rules = rules_view M.meaning rules.now in
-        let made = next_states U group batch.now rules (item_view change.now) more work.old (P.state provider.old) in
-        OnErr result (IsKeptIn (P.kept provider.new) (P.state provider.old ∷ made)) }
+        OnErr result (BreaksOff P.kept P.came P.broke provider.old provider.new made (P.state provider.old ∷ made)) }
     ensures consistent { IsConsistent U (P.state provider.old) }
-    ensures cause { HasCause (P.faults provider.old) (P.faults provider.new) result }
+    ensures cause { HasCause blames_storage (P.faults provider.old) (P.faults provider.new) result }
 {
     let end = turn(alloc, provider, work, batch, rules, change)?;
     let due = is_due(group, more, end, work.count());
@@ -87,23 +81,16 @@ pub(crate) fn range_step<const U: usize, P: Provider<U>>(
     work: &mut Work<U>,
     batch: &Batch<U>,
 ) -> Result<(), ProviderFault>
-    requires told { IfSome (P.kept provider.old) (λ k. k ≡ P.state provider.old) }
+    requires settled { P.settled provider.old }
     requires waits { Waits U work.old.pending (P.state provider.old) }
     requires no_more { KnowsNoMore U (P.state provider.old) batch.now }
     ensures entries { OnOk result (work.new.entries ≡ work.old.entries) }
-    ensures state { let w = with_range_of U batch.now work.old in
-        OnOk result (P.state provider.new ≡ destination U w (P.state provider.old)) }
-    ensures told { OnOk result (IfSome (P.kept provider.new) (λ k. k ≡ P.state provider.new)) }
-    ensures came { let w = with_range_of U batch.now work.old in
-        OnOk result (P.came provider.old provider.new (destination U w (P.state provider.old) ∷ [])) }
-    ensures fault { let w = with_range_of U batch.now work.old in
-        let made = destination U w (P.state provider.old) ∷ [] in
-        OnErr result (CameInPart P.came P.broke provider.old provider.new made) }
-    ensures kept { let w = with_range_of U batch.now work.old in
-        let made = destination U w (P.state provider.old) ∷ [] in
-        OnErr result (IsKeptIn (P.kept provider.new) (P.state provider.old ∷ made)) }
+    ensures arrives { let last = destination U (with_range_of U batch.now work.old) (P.state provider.old) in
+        OnOk result (Arrives P.state P.kept P.settled P.came provider.old provider.new (last ∷ []) last) }
+    ensures breaks_off { let made = destination U (with_range_of U batch.now work.old) (P.state provider.old) ∷ [] in
+        OnErr result (BreaksOff P.kept P.came P.broke provider.old provider.new made (P.state provider.old ∷ made)) }
     ensures consistent { IsConsistent U (P.state provider.old) }
-    ensures cause { HasCause (P.faults provider.old) (P.faults provider.new) result }
+    ensures cause { HasCause blames_storage (P.faults provider.old) (P.faults provider.new) result }
 {
     batch.keeps();
     provider.keeps();

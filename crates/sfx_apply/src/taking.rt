@@ -19,7 +19,8 @@ pub(crate) fn taken_state<const U: usize>(
     local: Option<&Item<U>>,
 ) -> Result<State<U>, Memory>
     requires { 1 ≤ U }
-    ensures { IfOk result (λ state. state_view state ≡ taken_state U marks.now (state_view change.now.state) (option_map (λ x. state_view x.now.state) local.entry)) }
+    ensures { let here = option_map (λ x. state_view x.now.state) local.entry in
+        IfOk result (λ state. state_view state ≡ taken_state U marks.now (state_view change.now.state) here) }
 {
     let Some(local) = local else {
         return change.state.copy(alloc);

@@ -7,7 +7,8 @@ ghost use Rattle.sfx_model.specs.Batch.{IsSent};
 ghost use Rattle.sfx_model.specs.Consistent.{IsConsistent};
 ghost use Rattle.sfx_model.specs.Items.{item_view, state_view};
 ghost use Rattle.sfx_model.specs.declared.mode.Mode.TheVariants.{Normal};
-ghost use Rattle.sfx_provider.specs.Fault.{HasCause};
+ghost use Rattle.sfx_provider.specs.Fault.{HasCause, blames_storage};
+ghost use Rattle.sfx_provider.specs.Leaves.{Rests};
 ghost use Rattle.sfx_settle.specs.Rules.{rules_view};
 
 use crate::planning::planned;
@@ -42,11 +43,9 @@ pub(crate) fn turn<const U: usize, P: Provider<U>, M: Merger>(
         let x = item_view change.now in
         OnOk result (work.new ≡ turned U batch.now rules x work.old (P.state provider.old)) }
     ensures waits { OnOk result (Waits U work.new.pending (P.state provider.old)) }
-    ensures state { P.state provider.new ≡ P.state provider.old }
-    ensures kept { P.kept provider.new ≡ P.kept provider.old }
-    ensures came { P.came provider.old provider.new [] }
+    ensures rests { Rests P.state P.kept P.settled P.came provider.old provider.new }
     ensures consistent { IsConsistent U (P.state provider.old) }
-    ensures cause { HasCause (P.faults provider.old) (P.faults provider.new) result }
+    ensures cause { HasCause blames_storage (P.faults provider.old) (P.faults provider.new) result }
 {
     batch.keeps();
     provider.keeps();

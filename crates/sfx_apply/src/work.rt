@@ -1,10 +1,10 @@
-ghost use Rattle.std.specs.Prelude.{◌≡◌, ◌≤◌, ◌∷◌, ◌++◌, [], None, length, IfOk, OnOk};
+ghost use Rattle.std.specs.Prelude.{◌≡◌, ◌≤◌, ◌∷◌, ◌++◌, [], length, IfOk, OnOk};
 ghost use Rattle.std.specs.Option.{option_map};
 ghost use Rattle.sfx_apply.specs.Turns.{with_range_of};
-ghost use Rattle.sfx_apply.specs.Work.{put_taken, taken_state, with_marks};
+ghost use Rattle.sfx_apply.specs.Work.{put_taken, quiet_entry, taken_state, with_marks};
 ghost use Rattle.sfx_ids.specs.declared.cut.Cut.TheVariants.{After, At};
 ghost use Rattle.sfx_knowledge.specs.Knowledge.{IsKnowledge};
-ghost use Rattle.sfx_model.specs.Entry.{kind_of_marks, left_from};
+ghost use Rattle.sfx_model.specs.Entry.{left_from};
 ghost use Rattle.sfx_model.specs.Items.{item_view, items_view, state_view};
 ghost use Rattle.sfx_model.specs.Knowing.{learned_known};
 ghost use Rattle.sfx_model.specs.Session.{is_spent, lefts, reduced};
@@ -75,8 +75,11 @@ impl<const U: usize> Work<U> {
     ) -> Result<(), Memory>
         requires some { 1 ≤ U }
         requires form { IsKnowledge U self.old.pending.knowledge }
-        ensures pending { OnOk result (self.new.pending ≡ with_marks U batch.now (item_view change.now) marks.entry (option_map (λ x. state_view x.now.state) local.entry) self.old.pending) }
-        ensures entries { OnOk result (self.new.entries ≡ self.old.entries ++ record { item = change.now.id; kind = kind_of_marks marks.entry; marks = marks.entry; tick = None; name = None; others = [] } ∷ []) }
+        ensures pending { let here = option_map (λ x. state_view x.now.state) local.entry in
+            let c = self.old.pending in
+            OnOk result (self.new.pending ≡ with_marks U batch.now (item_view change.now) marks.entry here c) }
+        ensures entries { let entry = quiet_entry change.now.id marks.entry in
+            OnOk result (self.new.entries ≡ self.old.entries ++ entry ∷ []) }
         ensures budget { OnOk result (self.new.budget ≡ reduced self.old.budget 1) }
     {
         self.learn_item(alloc, batch, &change.id, &marks)?;
@@ -96,7 +99,10 @@ impl<const U: usize> Work<U> {
     ) -> Result<(), Memory>
         requires some { 1 ≤ U }
         requires form { IsKnowledge U self.old.pending.knowledge }
-        ensures pending { OnOk result (self.new.pending ≡ record { clock = self.old.pending.clock; knowledge = learned_known U (At id.now) (After id.now) (left_from id.now 0 marks.now) self.old.pending.knowledge batch.now.made_with; forgotten = self.old.pending.forgotten; puts = self.old.pending.puts; drops = self.old.pending.drops }) }
+        ensures pending { let c = self.old.pending in
+            let left = left_from id.now 0 marks.now in
+            let known = learned_known U (At id.now) (After id.now) left c.knowledge batch.now.made_with in
+            OnOk result (self.new.pending ≡ record c { knowledge = known }) }
         ensures entries { OnOk result (self.new.entries ≡ self.old.entries) }
         ensures budget { OnOk result (self.new.budget ≡ self.old.budget) }
     {
@@ -114,7 +120,10 @@ impl<const U: usize> Work<U> {
         marks: &Marks<U>,
     ) -> Result<(), Memory>
         requires some { 1 ≤ U }
-        ensures pending { OnOk result (self.new.pending ≡ record { clock = self.old.pending.clock; knowledge = self.old.pending.knowledge; forgotten = self.old.pending.forgotten; puts = put_taken U marks.now (item_view change.now) (option_map (λ x. state_view x.now.state) local.entry) self.old.pending.puts; drops = self.old.pending.drops }) }
+        ensures pending { let c = self.old.pending in
+            let here = option_map (λ x. state_view x.now.state) local.entry in
+            let puts = put_taken U marks.now (item_view change.now) here c.puts in
+            OnOk result (self.new.pending ≡ record c { puts = puts }) }
         ensures entries { OnOk result (self.new.entries ≡ self.old.entries) }
         ensures budget { OnOk result (self.new.budget ≡ self.old.budget) }
     {
@@ -141,7 +150,10 @@ impl<const U: usize> Work<U> {
     fn range_known(&self, alloc: Global, batch: &Batch<U>) -> Result<Knowledge<U>, Memory>
         requires some { 1 ≤ U }
         requires form { IsKnowledge U self.now.pending.knowledge }
-        ensures value { IfOk result (λ known. known ≡ learned_known U batch.now.from batch.now.to (lefts self.now.entries) self.now.pending.knowledge batch.now.made_with) }
+        ensures value { let b = batch.now in
+            let here = self.now.pending.knowledge in
+            let all = learned_known U b.from b.to (lefts self.now.entries) here b.made_with in
+            IfOk result (λ known. known ≡ all) }
     {
         batch.keeps();
         let pending = &self.pending;
@@ -165,7 +177,10 @@ impl<const U: usize> Work<U> {
     ) -> Result<Knowledge<U>, Memory>
         requires some { 1 ≤ U }
         requires form { IsKnowledge U self.now.pending.knowledge }
-        ensures value { IfOk result (λ known. known ≡ learned_known U (At id.now) (After id.now) (left_from id.now 0 marks.now) self.now.pending.knowledge batch.now.made_with) }
+        ensures value { let left = left_from id.now 0 marks.now in
+            let here = self.now.pending.knowledge in
+            let all = learned_known U (At id.now) (After id.now) left here batch.now.made_with in
+            IfOk result (λ known. known ≡ all) }
     {
         batch.keeps();
         let pending = &self.pending;
@@ -181,7 +196,9 @@ fn taken_item<const U: usize>(
     local: Option<&Item<U>>,
 ) -> Result<Item<U>, Memory>
     requires { 1 ≤ U }
-    ensures { IfOk result (λ item. item_view item ≡ record { id = change.now.id; state = taken_state U marks.now (state_view change.now.state) (option_map (λ x. state_view x.now.state) local.entry) }) }
+    ensures { let here = option_map (λ x. state_view x.now.state) local.entry in
+        let state = taken_state U marks.now (state_view change.now.state) here in
+        IfOk result (λ item. item_view item ≡ record { id = change.now.id; state = state }) }
 {
     Ok(Item {
         id: change.id,
@@ -191,7 +208,7 @@ fn taken_item<const U: usize>(
 
 /// The entry of an item with these marks.
 fn entry_of<const U: usize>(alloc: Global, id: &ItemId, marks: Marks<U>) -> Entry<U>
-    ensures { result ≡ record { item = id.now; kind = kind_of_marks marks.entry; marks = marks.entry; tick = None; name = None; others = [] } }
+    ensures { result ≡ quiet_entry id.now marks.entry }
 {
     Entry {
         item: *id,

@@ -1,62 +1,56 @@
-use Rattle.std.proofs.Common.{[], inl, le_trans, refl}
+use Rattle.std.proofs.Common.{◌≡◌, ◌∙◌, ap, inl, le_trans, refl}
 use Rattle.std.proofs.lemmas.Result.{err_from_is_err_and}
+use Rattle.sfx_model.specs.Session.{Outcome, applied, applied_batch}
+use Rattle.sfx_model.proofs.Orderly.{orderly}
 use Rattle.sfx_provider.specs.declared.provider_fault.ProviderFault.TheVariants.{Failed, Memory}
-use Rattle.sfx_settle.specs.Rules.{rules_view}
-use Rattle.sfx_apply.proofs.Bringing.{brought_acts, read_state, told_not_ahead}
+use Rattle.sfx_provider.specs.Fault.{blames_storage}
 use Rattle.sfx_provider.proofs.Causes.{cause_later}
-use Rattle.sfx_apply.proofs.Exits.{if_ok_never, kept_of_stops, ok_never, some_never}
-use Rattle.sfx_apply.proofs.Looping.{batch_came, batch_fault, batch_kept, batch_report}
-use Rattle.sfx_apply.proofs.Standing.{on_err_anyhow}
+use Rattle.sfx_provider.proofs.LeavesLemmas.{breaks_still}
+use Rattle.sfx_provider.proofs.Exits.{if_ok_never, ok_never, on_err_always}
+use Rattle.sfx_settle.specs.Rules.{rules_view}
+use Rattle.sfx_apply.proofs.Bringing.{brought_acts, told_not_ahead}
+use Rattle.sfx_apply.proofs.Exits.{some_never}
+use Rattle.sfx_apply.proofs.Looping.{batch_arrives, batch_breaks, same_outcome}
 use Rattle.sfx_apply.proofs.applying.apply_batch.Goals as goal
 
 pub returns-in_err-work-clause-not_ahead : goal.returns-in_err-work-clause-not_ahead
 returns-in_err-work-clause-not_ahead g c =
     let exit = err_from_is_err_and c.from_residual.result c.from_residual.ensures.1 in
     let m = g.P.Provider.state c.args.provider.now in
-    λ w source brings. rw (exit.1, exit.2) (told_not_ahead w g.row.U m.clock source m c.args.batch.now _ c.in_err-work.ensures.ahead brings)
+    λ w source brings. rw (exit.1, exit.2) (told_not_ahead w g.row.U source m c.args.batch.now _ c.in_err-work.ensures.ahead brings)
 
 pub returns-in-Ok-clause-acts : goal.returns-in-Ok-clause-acts
 returns-in-Ok-clause-acts g c =
     let p = g.P.Provider in
     let rules = rules_view g.M.Merger.meaning c.args.rules.now in
     let m = p.state c.args.provider.now in
-    let is = read_state g.row.U m (p.state c.begin.new.provider) (p.state c.apply_changes.new.provider) c.args.batch.now rules c.in_ok-work.work.budget c.args.budget
-    c.in_ok-work.ensures.untouched.0 c.in_ok-work.ensures.budget c.in-Ok.ensures.state in
+    let same = same_outcome g.row.U c.args.batch.now rules c.in_ok-work.work.budget c.args.budget (p.state c.begin.new.provider) m
+    c.in_ok-work.ensures.rests.same c.in_ok-work.ensures.budget in
+    let is : p.state c.apply_changes.new.provider ≡ (applied g.row.U c.args.batch.now rules c.args.budget m).member =
+    c.in-Ok.ensures.arrives.at ∙ ap (λ (o : Outcome). o.member) same in
     λ w source brings.
-    brought_acts w g.row.U source m (p.state c.apply_changes.new.provider) c.args.batch.now rules c.args.budget c.in_ok-work.ensures.orderly is brings
+    brought_acts w g.row.U source m (p.state c.apply_changes.new.provider) c.args.batch.now rules c.args.budget (orderly g.row.U m c.keeps.ensures.consistent) is brings
 
 pub returns-in_err-work-clause-report : goal.returns-in_err-work-clause-report
 returns-in_err-work-clause-report g c = if_ok_never _ _ c.from_residual.result c.from_residual.ensures.1
 
-pub returns-in_err-work-clause-state : goal.returns-in_err-work-clause-state
-returns-in_err-work-clause-state g c = ok_never _ _ c.from_residual.result c.from_residual.ensures.1
-
-pub returns-in_err-work-clause-told : goal.returns-in_err-work-clause-told
-returns-in_err-work-clause-told g c = ok_never _ _ c.from_residual.result c.from_residual.ensures.1
-
-pub returns-in_err-work-clause-came : goal.returns-in_err-work-clause-came
-returns-in_err-work-clause-came g c = ok_never _ _ c.from_residual.result c.from_residual.ensures.1
+pub returns-in_err-work-clause-arrives : goal.returns-in_err-work-clause-arrives
+returns-in_err-work-clause-arrives g c = ok_never _ _ c.from_residual.result c.from_residual.ensures.1
 
 pub returns-in_err-work-clause-acts : goal.returns-in_err-work-clause-acts
 returns-in_err-work-clause-acts g c = ok_never _ _ c.from_residual.result c.from_residual.ensures.1
 
-pub returns-in_err-work-clause-fault : goal.returns-in_err-work-clause-fault
-returns-in_err-work-clause-fault g c = on_err_anyhow c.from_residual.result (inl ([], _, refl, c.in_err-work.ensures.untouched.2))
-
-pub returns-in_err-work-clause-kept : goal.returns-in_err-work-clause-kept
-returns-in_err-work-clause-kept g c =
-    let p = g.P.Provider in
-    let now = c.args.provider.now in
-    on_err_anyhow c.from_residual.result
-    (kept_of_stops c.args.group (p.kept c.begin.new.provider) (p.kept now) (p.state now) _ c.in_err-work.ensures.untouched.1 c.requires.told)
+pub returns-in_err-work-clause-breaks_off : goal.returns-in_err-work-clause-breaks_off
+returns-in_err-work-clause-breaks_off g c =
+    on_err_always c.from_residual.result
+    (breaks_still _ _ g.met.P.Provider.settled_kept c.requires.settled c.in_err-work.ensures.rests (inl refl))
 
 pub returns-in_err-work-clause-ahead : goal.returns-in_err-work-clause-ahead
 returns-in_err-work-clause-ahead g c =
-    let exit = err_from_is_err_and c.from_residual.result c.from_residual.ensures.1 in
-    rw (exit.1, exit.2) c.in_err-work.ensures.ahead
-
-pub returns-in_err-work-clause-untouched : goal.returns-in_err-work-clause-untouched
-returns-in_err-work-clause-untouched g c = λ some. c.in_err-work.ensures.untouched
+    let exit = err_from_is_err_and c.from_residual.result c.from_residual.ensures.1 in record {
+      refused = rw (exit.1, exit.2) c.in_err-work.ensures.ahead;
+      rests = λ some. c.in_err-work.ensures.rests;
+    }
 
 pub returns-in_err-work-clause-cause : goal.returns-in_err-work-clause-cause
 returns-in_err-work-clause-cause g c =
@@ -67,22 +61,16 @@ pub returns-in-Err-Failed : goal.returns-in-Err-Failed
 returns-in-Err-Failed g c =
     let p = g.P.Provider in
     let rules = rules_view g.M.Merger.meaning c.args.rules.now in
-    let m = p.state c.args.provider.now in
     let begun = c.in_ok-work.ensures in
     let failed = c.in-Err-Failed.ensures in record {
       report = tt;
-      state = tt;
-      told = tt;
-      came = tt;
-      fault = batch_fault p.came p.broke c.args.provider.now c.begin.new.provider c.apply_changes.new.provider g.row.U c.args.batch.now rules c.args.group c.in_ok-work.work.budget c.args.budget
-          (p.state c.begin.new.provider) m g.met.P.Provider.came_on begun.untouched.2 begun.untouched.0 begun.budget failed.fault;
-      kept = batch_kept (p.kept c.apply_changes.new.provider) g.row.U c.args.batch.now rules c.args.group c.in_ok-work.work.budget c.args.budget (p.state c.begin.new.provider) m
-          begun.untouched.0 begun.budget failed.kept;
+      arrives = tt;
+      breaks_off = batch_breaks g.row.U c.args.batch.now rules c.args.group c.in_ok-work.work.budget c.args.budget
+          g.met.P.Provider.came_on begun.rests begun.budget failed.breaks_off;
+      ahead = record { refused = tt; rests = λ some. some_never _ _ begun.ahead some };
       acts = tt;
-      ahead = tt;
       not_ahead = λ w source brings. tt;
-      untouched = λ some. some_never _ _ begun.ahead some;
-      cause = cause_later (p.faults c.args.provider.now) (p.faults c.begin.new.provider) (p.faults c.apply_changes.new.provider) Failed begun.cause
+      cause = cause_later blames_storage (p.faults c.args.provider.now) (p.faults c.begin.new.provider) (p.faults c.apply_changes.new.provider) Failed begun.cause
           (rw c.in-Err-Failed.field-0-is at failed.cause);
     }
 
@@ -90,22 +78,16 @@ pub returns-in-Err-Memory : goal.returns-in-Err-Memory
 returns-in-Err-Memory g c =
     let p = g.P.Provider in
     let rules = rules_view g.M.Merger.meaning c.args.rules.now in
-    let m = p.state c.args.provider.now in
     let begun = c.in_ok-work.ensures in
     let failed = c.in-Err-Memory.ensures in record {
       report = tt;
-      state = tt;
-      told = tt;
-      came = tt;
-      fault = batch_fault p.came p.broke c.args.provider.now c.begin.new.provider c.apply_changes.new.provider g.row.U c.args.batch.now rules c.args.group c.in_ok-work.work.budget c.args.budget
-          (p.state c.begin.new.provider) m g.met.P.Provider.came_on begun.untouched.2 begun.untouched.0 begun.budget failed.fault;
-      kept = batch_kept (p.kept c.apply_changes.new.provider) g.row.U c.args.batch.now rules c.args.group c.in_ok-work.work.budget c.args.budget (p.state c.begin.new.provider) m
-          begun.untouched.0 begun.budget failed.kept;
+      arrives = tt;
+      breaks_off = batch_breaks g.row.U c.args.batch.now rules c.args.group c.in_ok-work.work.budget c.args.budget
+          g.met.P.Provider.came_on begun.rests begun.budget failed.breaks_off;
+      ahead = record { refused = tt; rests = λ some. some_never _ _ begun.ahead some };
       acts = tt;
-      ahead = tt;
       not_ahead = λ w source brings. tt;
-      untouched = λ some. some_never _ _ begun.ahead some;
-      cause = cause_later (p.faults c.args.provider.now) (p.faults c.begin.new.provider) (p.faults c.apply_changes.new.provider) Memory begun.cause
+      cause = cause_later blames_storage (p.faults c.args.provider.now) (p.faults c.begin.new.provider) (p.faults c.apply_changes.new.provider) Memory begun.cause
           (rw c.in-Err-Memory.field-0-is at failed.cause);
     }
 
@@ -113,41 +95,27 @@ pub returns-in-Ok-clause-report : goal.returns-in-Ok-clause-report
 returns-in-Ok-clause-report g c =
     let p = g.P.Provider in
     let rules = rules_view g.M.Merger.meaning c.args.rules.now in
-    batch_report g.row.U c.args.batch.now rules c.in_ok-work.work.budget c.args.budget (p.state c.begin.new.provider) (p.state c.args.provider.now) _
-    c.in_ok-work.ensures.untouched.0 c.in_ok-work.ensures.budget c.in-Ok.ensures.report
+    c.in-Ok.ensures.report
+    ∙ ap applied_batch
+    (same_outcome g.row.U c.args.batch.now rules c.in_ok-work.work.budget c.args.budget (p.state c.begin.new.provider) (p.state c.args.provider.now)
+    c.in_ok-work.ensures.rests.same c.in_ok-work.ensures.budget)
 
-pub returns-in-Ok-clause-state : goal.returns-in-Ok-clause-state
-returns-in-Ok-clause-state g c =
-    let p = g.P.Provider in
+pub returns-in-Ok-clause-arrives : goal.returns-in-Ok-clause-arrives
+returns-in-Ok-clause-arrives g c =
     let rules = rules_view g.M.Merger.meaning c.args.rules.now in
-    read_state g.row.U (p.state c.args.provider.now) (p.state c.begin.new.provider) (p.state c.apply_changes.new.provider) c.args.batch.now rules c.in_ok-work.work.budget c.args.budget
-    c.in_ok-work.ensures.untouched.0 c.in_ok-work.ensures.budget c.in-Ok.ensures.state
+    let begun = c.in_ok-work.ensures in
+    batch_arrives g.row.U c.args.batch.now rules c.args.group c.in_ok-work.work.budget c.args.budget
+    g.met.P.Provider.came_read begun.rests begun.budget c.in-Ok.ensures.arrives
 
-pub returns-in-Ok-clause-told : goal.returns-in-Ok-clause-told
-returns-in-Ok-clause-told g c = c.in-Ok.ensures.told
-
-pub returns-in-Ok-clause-came : goal.returns-in-Ok-clause-came
-returns-in-Ok-clause-came g c =
-    let p = g.P.Provider in
-    let rules = rules_view g.M.Merger.meaning c.args.rules.now in
-    let read = c.in_ok-work.ensures.untouched in
-    batch_came p.came c.args.provider.now c.begin.new.provider c.apply_changes.new.provider g.row.U c.args.batch.now rules c.args.group c.in_ok-work.work.budget c.args.budget
-    (p.state c.begin.new.provider) (p.state c.args.provider.now) g.met.P.Provider.came_read read.2 read.0 c.in_ok-work.ensures.budget c.in-Ok.ensures.came
-
-pub returns-in-Ok-clause-fault : goal.returns-in-Ok-clause-fault
-returns-in-Ok-clause-fault g c = tt
-
-pub returns-in-Ok-clause-kept : goal.returns-in-Ok-clause-kept
-returns-in-Ok-clause-kept g c = tt
+pub returns-in-Ok-clause-breaks_off : goal.returns-in-Ok-clause-breaks_off
+returns-in-Ok-clause-breaks_off g c = tt
 
 pub returns-in-Ok-clause-ahead : goal.returns-in-Ok-clause-ahead
-returns-in-Ok-clause-ahead g c = c.in_ok-work.ensures.ahead
+returns-in-Ok-clause-ahead g c =
+    record { refused = c.in_ok-work.ensures.ahead; rests = λ some. some_never _ _ c.in_ok-work.ensures.ahead some }
 
 pub returns-in-Ok-clause-not_ahead : goal.returns-in-Ok-clause-not_ahead
 returns-in-Ok-clause-not_ahead g c = λ w source brings. tt
-
-pub returns-in-Ok-clause-untouched : goal.returns-in-Ok-clause-untouched
-returns-in-Ok-clause-untouched g c = λ some. some_never _ _ c.in_ok-work.ensures.ahead some
 
 pub returns-in-Ok-clause-cause : goal.returns-in-Ok-clause-cause
 returns-in-Ok-clause-cause g c = le_trans c.in_ok-work.ensures.cause c.in-Ok.ensures.cause

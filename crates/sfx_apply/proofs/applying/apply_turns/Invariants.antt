@@ -1,5 +1,4 @@
-use Rattle.std.proofs.Common.{◌≡◌, ◌≤◌, drop}
-use Rattle.std.specs.Prelude.{IfSome}
+use Rattle.std.proofs.Common.{◌≤◌, drop}
 use Rattle.sfx_model.specs.Session.{applied}
 use Rattle.sfx_settle.specs.Rules.{rules_view}
 use Rattle.sfx_apply.specs.Turns.{seen_views}
@@ -12,11 +11,10 @@ abbrev pub invariant-changes : goal.invariant-changes
 invariant-changes g l =
     let p = g.P.Provider in
     let rules = rules_view g.M.Merger.meaning l.rules in
-    let first = p.state l.fn.provider in
-    let now = p.state l.provider in record {
+    let first = p.state l.fn.provider in record {
       stands :
-          Stands (Arrived p.came l.fn.provider l.provider first now) g.row.U l.batch rules l.group
-          (applied g.row.U l.batch rules l.fn.work.budget first) now l.work (drop l.index (seen_views l.turns));
-      told : IfSome (p.kept l.provider) (λ k. k ≡ p.state l.provider);
+          Stands (Arrived p.state p.kept p.settled p.came l.fn.provider l.provider first) g.row.U l.batch rules l.group
+          (applied g.row.U l.batch rules l.fn.work.budget first) (p.state l.provider) l.work (drop l.index (seen_views l.turns));
+      settled : p.settled l.provider;
       faults : p.faults l.fn.provider ≤ p.faults l.provider;
     }

@@ -1,10 +1,12 @@
-use Rattle.std.proofs.Common.{[], inl, refl, le_trans}
+use Rattle.std.proofs.Common.{inl, refl, le_trans}
 use Rattle.sfx_model.specs.Items.{item_view}
+use Rattle.sfx_provider.proofs.Exits.{if_ok_never, ok_never, on_err_always}
 use Rattle.sfx_settle.specs.Rules.{rules_view}
 use Rattle.sfx_apply.specs.Turns.{due_after, end_before, turned}
-use Rattle.sfx_provider.proofs.Causes.{cause_later}
-use Rattle.sfx_apply.proofs.Exits.{cause_handed, if_ok_never, kept_first, ok_never}
-use Rattle.sfx_apply.proofs.Standing.{on_err_anyhow, same_due, step_came, step_fault, step_kept, step_state, step_work}
+use Rattle.sfx_provider.specs.Fault.{blames_storage}
+use Rattle.sfx_provider.proofs.Causes.{cause_handed, cause_later}
+use Rattle.sfx_provider.proofs.LeavesLemmas.{breaks_still}
+use Rattle.sfx_apply.proofs.Standing.{same_due, step_arrives, step_breaks, step_work}
 use Rattle.sfx_apply.proofs.stepping.change_step.Goals as goal
 
 pub returns-in_err-end : goal.returns-in_err-end
@@ -15,13 +17,10 @@ returns-in_err-end g c =
     let left = c.in_err-end.ensures in record {
       value = if_ok_never _ _ r is;
       work = ok_never _ _ r is;
-      state = ok_never _ _ r is;
-      told = ok_never _ _ r is;
-      came = ok_never _ _ r is;
-      fault = on_err_anyhow r (inl ([], _, refl, left.came));
-      kept = on_err_anyhow r (kept_first (p.kept c.turn.new.provider) (p.kept c.args.provider.now) (p.state c.args.provider.now) _ left.kept c.requires.told);
+      arrives = ok_never _ _ r is;
+      breaks_off = on_err_always r (breaks_still _ _ g.met.P.Provider.settled_kept c.requires.settled left.rests (inl refl));
       consistent = left.consistent;
-      cause = cause_handed (p.faults c.args.provider.now) (p.faults c.turn.new.provider) c.in_err-end.field-0.0 r is left.cause;
+      cause = cause_handed blames_storage (p.faults c.args.provider.now) (p.faults c.turn.new.provider) c.in_err-end.field-0.0 r is left.cause;
     }
 
 pub returns-in_err-commit_if : goal.returns-in_err-commit_if
@@ -41,18 +40,12 @@ returns-in_err-commit_if g c =
     let is = c.from_residual-in_err-commit_if.ensures.1 in record {
       value = if_ok_never _ _ r is;
       work = ok_never _ _ r is;
-      state = ok_never _ _ r is;
-      told = ok_never _ _ r is;
-      came = ok_never _ _ r is;
-      fault = on_err_anyhow r
-          (step_fault p.came p.broke c.args.provider.now c.turn.new.provider c.commit_if.new.provider g.row.U c.is_due-due.result after c.turn.new.work next
-          (p.state c.turn.new.provider) m g.met.P.Provider.came_on due turn.work turn.state turn.came failed.fault);
-      kept = on_err_anyhow r
-          (step_kept (p.kept c.commit_if.new.provider) g.row.U c.is_due-due.result after c.turn.new.work next (p.state c.turn.new.provider) m
-          due turn.work turn.state failed.kept);
+      arrives = ok_never _ _ r is;
+      breaks_off = on_err_always r
+          (step_breaks g.row.U c.is_due-due.result after c.turn.new.work next g.met.P.Provider.came_on due turn.work turn.rests failed.breaks_off);
       consistent = turn.consistent;
-      cause = cause_handed (p.faults c.args.provider.now) (p.faults c.commit_if.new.provider) c.in_err-commit_if.field-0.0 r is
-          (cause_later (p.faults c.args.provider.now) (p.faults c.turn.new.provider) (p.faults c.commit_if.new.provider) c.in_err-commit_if.field-0.0 turn.cause failed.cause);
+      cause = cause_handed blames_storage (p.faults c.args.provider.now) (p.faults c.commit_if.new.provider) c.in_err-commit_if.field-0.0 r is
+          (cause_later blames_storage (p.faults c.args.provider.now) (p.faults c.turn.new.provider) (p.faults c.commit_if.new.provider) c.in_err-commit_if.field-0.0 turn.cause failed.cause);
     }
 
 pub returns : goal.returns
@@ -70,12 +63,8 @@ returns g c =
     c.turn.new.work next c.is_due-due.ensures c.count.ensures turn.value turn.work in record {
       value = turn.value;
       work = step_work c.is_due-due.result after c.turn.new.work next c.commit_if.new.work due turn.work done.work;
-      state = step_state g.row.U c.is_due-due.result after c.turn.new.work next (p.state c.turn.new.provider) m (p.state c.commit_if.new.provider) due turn.work turn.state done.state;
-      told = done.told;
-      came = step_came p.came c.args.provider.now c.turn.new.provider c.commit_if.new.provider g.row.U c.is_due-due.result after c.turn.new.work next
-          (p.state c.turn.new.provider) m g.met.P.Provider.came_read due turn.work turn.state turn.came done.came;
-      fault = tt;
-      kept = tt;
+      arrives = step_arrives g.row.U c.is_due-due.result after c.turn.new.work next g.met.P.Provider.came_read due turn.work turn.rests done.arrives;
+      breaks_off = tt;
       consistent = turn.consistent;
       cause = le_trans turn.cause done.cause;
     }

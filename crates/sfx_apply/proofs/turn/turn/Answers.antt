@@ -1,10 +1,13 @@
-use Rattle.std.proofs.Common.{ap, le_refl, le_trans, refl, sym, ◌∙◌}
+use Rattle.std.proofs.Common.{ap, le_refl, le_trans, sym, ◌∙◌}
 use Rattle.sfx_model.specs.Draft.{Draft}
 use Rattle.sfx_model.specs.Items.{item_view}
+use Rattle.sfx_provider.proofs.Exits.{if_ok_never, ok_never}
 use Rattle.sfx_settle.specs.Rules.{rules_view}
 use Rattle.sfx_apply.proofs.Entering.{read_turn, spent_turn}
-use Rattle.sfx_provider.proofs.Causes.{cause_later}
-use Rattle.sfx_apply.proofs.Exits.{cause_handed, cause_memory, if_ok_never, ok_never}
+use Rattle.sfx_provider.specs.Fault.{blames_storage}
+use Rattle.sfx_provider.proofs.Causes.{cause_handed, cause_later}
+use Rattle.sfx_provider.proofs.LeavesLemmas.{rests_on, rests_self}
+use Rattle.sfx_apply.proofs.Exits.{cause_memory}
 use Rattle.sfx_apply.proofs.turn.turn.Goals as goal
 
 pub returns-then-is_spent : goal.returns-then-is_spent
@@ -15,9 +18,7 @@ returns-then-is_spent g c =
       value = spent.0;
       work = spent.1;
       waits = c.requires.waits;
-      state = refl;
-      kept = refl;
-      came = g.met.P.Provider.came_self c.args.provider.now;
+      rests = rests_self g.met.P.Provider.came_self c.args.provider.now;
       consistent = c.keeps-2.ensures.consistent;
       cause = le_refl _;
     }
@@ -31,11 +32,9 @@ returns-in_err-local g c =
       value = if_ok_never _ _ r is;
       work = ok_never _ _ r is;
       waits = ok_never _ _ r is;
-      state = failed.state;
-      kept = failed.kept;
-      came = failed.came;
+      rests = failed.rests;
       consistent = c.keeps-2.ensures.consistent;
-      cause = cause_handed (p.faults c.args.provider.now) (p.faults c.item_now.new.provider) c.in_err-local.field-0.0 r is failed.cause;
+      cause = cause_handed blames_storage (p.faults c.args.provider.now) (p.faults c.item_now.new.provider) c.in_err-local.field-0.0 r is failed.cause;
     }
 
 pub returns-in_err-draft : goal.returns-in_err-draft
@@ -49,12 +48,10 @@ returns-in_err-draft g c =
       value = if_ok_never _ _ r is;
       work = ok_never _ _ r is;
       waits = ok_never _ _ r is;
-      state = failed.state ∙ read.state;
-      kept = failed.kept ∙ read.kept;
-      came = g.met.P.Provider.came_read now c.item_now.new.provider c.planned.new.provider _ read.came failed.came;
+      rests = rests_on g.met.P.Provider.came_read read.rests failed.rests;
       consistent = c.keeps-2.ensures.consistent;
-      cause = cause_handed (p.faults now) (p.faults c.planned.new.provider) c.in_err-draft.field-0.0 r is
-          (cause_later (p.faults now) (p.faults c.item_now.new.provider) (p.faults c.planned.new.provider) c.in_err-draft.field-0.0 read.cause failed.cause);
+      cause = cause_handed blames_storage (p.faults now) (p.faults c.planned.new.provider) c.in_err-draft.field-0.0 r is
+          (cause_later blames_storage (p.faults now) (p.faults c.item_now.new.provider) (p.faults c.planned.new.provider) c.in_err-draft.field-0.0 read.cause failed.cause);
     }
 
 pub returns-in_err-add : goal.returns-in_err-add
@@ -68,9 +65,7 @@ returns-in_err-add g c =
       value = if_ok_never _ _ r is;
       work = ok_never _ _ r is;
       waits = ok_never _ _ r is;
-      state = made.state ∙ read.state;
-      kept = made.kept ∙ read.kept;
-      came = g.met.P.Provider.came_read now c.item_now.new.provider c.planned.new.provider _ read.came made.came;
+      rests = rests_on g.met.P.Provider.came_read read.rests made.rests;
       consistent = c.keeps-2.ensures.consistent;
       cause = cause_memory (p.faults now) (p.faults c.planned.new.provider) r is (le_trans read.cause made.cause);
     }
@@ -86,14 +81,12 @@ returns g c =
     let taken = read_turn c.args.batch.now rules (item_view c.args.change.now) c.args.work.now c.add.new.self (p.state now)
     (p.state c.item_now.new.provider) c.as_ref-2.result c.in_ok-local.local c.in_ok-draft.draft c.draft.inside.marks
     c.keeps-2.ensures.consistent c.requires.waits c.keeps.ensures.batch c.requires.skip c.requires.no_more c.requires.sent (sym c.is_spent.ensures ∙ c.if-is_spent.false)
-    c.as_ref-2.ensures.value read.value read.state (ap (λ (d : Draft). d.marks) c.draft.view_is) made.value
+    c.as_ref-2.ensures.value read.value read.rests.same (ap (λ (d : Draft). d.marks) c.draft.view_is) made.value
     added.pending added.entries added.budget in record {
       value = taken.0;
       work = taken.1;
       waits = taken.2;
-      state = made.state ∙ read.state;
-      kept = made.kept ∙ read.kept;
-      came = g.met.P.Provider.came_read now c.item_now.new.provider c.planned.new.provider _ read.came made.came;
+      rests = rests_on g.met.P.Provider.came_read read.rests made.rests;
       consistent = c.keeps-2.ensures.consistent;
       cause = le_trans read.cause made.cause;
     }
