@@ -1,6 +1,6 @@
 -- Lists of items in order of their ids: where an item stands, what is next to a place, and what they are
 -- with items put into them or taken away.
-use Rattle.std.proofs.Common.{◌≡◌, ℕ, zero, suc, ◌+◌, ◌*◌, ◌^◌, ◌<◌, ◌≤◌, ◌++◌, Bool, true, false, true≢false, not, if◌then◌else◌, Option, Some, None, Result, Ok, Err, List, [], ◌∷◌, length, get_or, set, cond, drop, inl, inr, refl, sym, ◌∙◌, ap, subst, arith}
+use Rattle.std.proofs.Common.{◌≡◌, ◌≢◌, ℕ, zero, suc, ◌+◌, ◌*◌, ◌^◌, ◌<◌, ◌≤◌, ◌++◌, Bool, true, false, true≢false, not, if◌then◌else◌, Option, Some, None, Result, Ok, Err, List, [], ◌∷◌, length, get_or, set, cond, drop, inl, inr, refl, sym, ◌∙◌, ap, subst, arith}
 use Rattle.std.proofs.lemmas.Bool.{cases_lt}
 use Rattle.std.proofs.lemmas.Bool.Decides.{nat_tests}
 use Rattle.std.proofs.lemmas.Grind.{pow_more}
@@ -24,13 +24,13 @@ use Rattle.sfx_item.specs.declared.item.Item.{Item}
 use Rattle.sfx_model.specs.Events.{same_item}
 use Rattle.sfx_model.specs.Items.{item_view, items_view, state_view}
 use Rattle.sfx_model.specs.Members.{AreIdsRising, AreRising, IsIdBelow, ItemState, MemberItem, state_of}
-use Rattle.sfx_model.specs.Putting.{drop_all, drop_item, put_all, put_for, put_item}
+use Rattle.sfx_model.specs.Putting.{drop_all, drop_item, put_all, put_for, put_item, with_state_of}
 use Rattle.sfx_model.specs.Readings.{first_from}
 use Rattle.sfx_model.specs.Sets.{Has}
 use Rattle.sfx_model.specs.States.{is_id_below, with_item, with_state}
-use Rattle.sfx_model.proofs.Placing.{below_is}
-use Rattle.sfx_model.proofs.Putting.{drop_rising}
-use Rattle.sfx_model.proofs.Rising.{before_differs, before_trans, ids_are, ids_compared, items_are, other_item, state_behind, state_below}
+use Rattle.sfx_model.proofs.Placing.{before_all, below_is}
+use Rattle.sfx_model.proofs.Putting.{drop_gone, drop_others, drop_rising, put_found, put_others, put_rising}
+use Rattle.sfx_model.proofs.Rising.{before_differs, before_trans, ids_are, ids_compared, items_are, other_item, rising_equal, state_behind, state_below}
 use Rattle.sfx_model.proofs.Steps.{same_item_is, same_item_self}
 use Rattle.sfx_items.specs.Merging.{IsNext}
 use Rattle.sfx_items.specs.Neighbours.{last_before}
@@ -149,10 +149,7 @@ position_none {U} (x ∷ xs) i n rising next = by_test (position_none xs i (n + 
         rw (other_item x.id i (before_differs x.id i (below_cut x.id i lt))) (rest (λ low. h (omega (arith, low))))
     by_test rest false lt h =
         let above : IsIdBelow i x.id = below_cut i x.id (h (omega arith) x) in
-        none_above (x ∷ xs) i n (λ y has. elim has [
-          | inl is ↦ subst (λ (z : MemberItem). IsIdBelow i z.id) (sym is) above
-          | inr there ↦ before_trans i x.id y.id above (rising.0 y there)
-        ])
+        none_above (x ∷ xs) i n (before_all i (item_view x) (items_view xs) above rising)
 
 -- ---- the search by halves
 
@@ -526,10 +523,7 @@ all_behind x (p ∷ ps) xs below =
 pub next_held :
     (x p : MemberItem) (ps xs : List MemberItem)
     → AreRising (p ∷ ps) → IsIdBelow x.id p.id → put_all (p ∷ ps) (x ∷ xs) ≡ x ∷ put_all (p ∷ ps) xs
-next_held x p ps xs rising below = all_behind x (p ∷ ps) xs (λ y has. elim has [
-  | inl is ↦ subst (λ (z : MemberItem). IsIdBelow x.id z.id) (sym is) below
-  | inr there ↦ before_trans x.id p.id y.id below (rising.0 y there)
-])
+next_held x p ps xs rising below = all_behind x (p ∷ ps) xs (before_all x.id p ps below rising)
 
 pub next_both :
     (x p : MemberItem) (ps xs : List MemberItem)
@@ -552,10 +546,7 @@ pub next_put :
     (x p : MemberItem) (ps xs : List MemberItem)
     → AreRising (p ∷ ps) → AreRising (x ∷ xs) → IsIdBelow p.id x.id → put_all (p ∷ ps) (x ∷ xs) ≡ p ∷ put_all ps (x ∷ xs)
 next_put x p ps xs rising rises below =
-    let none : state_of (x ∷ xs) p.id ≡ None = state_below (x ∷ xs) p.id (λ y has. elim has [
-      | inl is ↦ subst (λ (z : MemberItem). IsIdBelow p.id z.id) (sym is) below
-      | inr there ↦ before_trans p.id x.id y.id below (rises.0 y there)
-    ]) in
+    let none : state_of (x ∷ xs) p.id ≡ None = state_below (x ∷ xs) p.id (before_all p.id x xs below rises) in
     next_before p ps (x ∷ xs) rising (rw none (rw (sym (test_below x.id p.id) ∙ cut_above x.id p.id below) refl))
 
 pub next_last : (p : MemberItem) (ps : List MemberItem) → AreRising (p ∷ ps) → put_all (p ∷ ps) [] ≡ p ∷ put_all ps []
@@ -799,3 +790,143 @@ drops_stay {U} (i ∷ is) xs rising =
     ap items_view (sym (both_stay i is xs))
     ∙ drops_stay is (filter (stays_but i) xs) (subst AreRising (sym one) (drop_rising i (items_view xs) rising))
     ∙ ap (λ (ys : List MemberItem). drop_all is ys) one
+
+-- ---- what is found once items are put and taken away
+
+-- Ids of which the test finds that they are not the same.
+pub ids_differ : (i j : ItemId) → same_item i j ≡ false → i ≢ j
+ids_differ i j test same =
+    let bad : true ≡ false = sym (same_item_self j) ∙ subst (λ (k : ItemId). same_item k j ≡ false) same test in
+    cc
+
+-- Items that are put: the order stays, they are found, and the others stay.
+pub puts_rising : (ps xs : List MemberItem) → AreRising xs → AreRising (put_all ps xs)
+puts_rising [] xs rising = rising
+puts_rising (p ∷ ps) xs rising = puts_rising ps (put_item p xs) (put_rising p xs rising)
+
+pub puts_others : (ps xs : List MemberItem) (j : ItemId) → state_of ps j ≡ None → state_of (put_all ps xs) j ≡ state_of xs j
+puts_others [] xs j none = refl
+puts_others (p ∷ ps) xs j none = by_test (puts_others ps (put_item p xs) j) (same_item p.id j) refl none
+  where
+    by_test :
+        (state_of ps j ≡ None → state_of (put_all ps (put_item p xs)) j ≡ state_of (put_item p xs) j)
+        → (b : Bool) → same_item p.id j ≡ b → (if b then Some p.state else state_of ps j) ≡ None
+        → state_of (put_all ps (put_item p xs)) j ≡ state_of xs j
+    by_test rest true e n = absurd (cc)
+    by_test rest false e n = rest n ∙ put_others p xs j (ids_differ p.id j e)
+
+pub puts_found :
+    (ps xs : List MemberItem) (j : ItemId) (state : ItemState)
+    → AreRising ps → state_of ps j ≡ Some state → state_of (put_all ps xs) j ≡ Some state
+puts_found [] xs j state rising is = absurd (cc)
+puts_found (p ∷ ps) xs j state rising is =
+    by_test (puts_found ps (put_item p xs) j state rising.1) (same_item p.id j) refl is
+  where
+    by_test :
+        (state_of ps j ≡ Some state → state_of (put_all ps (put_item p xs)) j ≡ Some state)
+        → (b : Bool) → same_item p.id j ≡ b → (if b then Some p.state else state_of ps j) ≡ Some state
+        → state_of (put_all ps (put_item p xs)) j ≡ Some state
+    by_test rest true e s =
+        let id : p.id ≡ j = same_item_is p.id j e in
+        let none : state_of ps j ≡ None =
+        subst (λ (i : ItemId). state_of ps i ≡ None) id (state_below ps p.id rising.0) in
+        let here : state_of (put_item p xs) j ≡ Some p.state =
+        subst (λ (i : ItemId). state_of (put_item p xs) i ≡ Some p.state) id (put_found p xs) in
+        puts_others ps (put_item p xs) j none ∙ here ∙ s
+    by_test rest false e s = rest s
+
+-- So an item is the one that is put, or else the one that was there.
+pub look_up :
+    (puts items : List MemberItem) (j : ItemId)
+    → AreRising puts → state_of (put_all puts items) j ≡ option_or (state_of puts j) (state_of items j)
+look_up puts items j rising = by_put (state_of puts j) refl
+  where
+    by_put : (o : Option ItemState) → state_of puts j ≡ o → state_of (put_all puts items) j ≡ option_or o (state_of items j)
+    by_put None e = puts_others puts items j e
+    by_put (Some s) e = puts_found puts items j s rising e
+
+one_rising : (x : MemberItem) → AreRising (x ∷ [])
+one_rising x = (λ y has. absurd has, tt)
+
+pub look_up_one :
+    (x : MemberItem) (items : List MemberItem) (j : ItemId)
+    → state_of (put_item x items) j ≡ option_or (state_of (x ∷ []) j) (state_of items j)
+look_up_one x items j = look_up (x ∷ []) items j (one_rising x)
+
+first_some : {A : Type 0} (a b c : Option A) → option_or (option_or a b) c ≡ option_or a (option_or b c)
+first_some None b c = refl
+first_some (Some x) b c = refl
+
+-- One more item that is put is put on top of the others.
+pub put_on :
+    (x : MemberItem) (puts items : List MemberItem)
+    → AreRising puts → AreRising items → put_all (put_item x puts) items ≡ put_item x (put_all puts items)
+put_on x puts items rising_puts rising =
+    rising_equal (put_all (put_item x puts) items) (put_item x (put_all puts items))
+    (puts_rising (put_item x puts) items rising) (put_rising x (put_all puts items) (puts_rising puts items rising))
+    (λ j.
+    look_up (put_item x puts) items j (put_rising x puts rising_puts)
+    ∙ ap (λ (o : Option ItemState). option_or o (state_of items j)) (look_up_one x puts j)
+    ∙ first_some (state_of (x ∷ []) j) (state_of puts j) (state_of items j)
+    ∙ ap (λ (o : Option ItemState). option_or (state_of (x ∷ []) j) o) (sym (look_up puts items j rising_puts))
+    ∙ sym (look_up_one x (put_all puts items) j))
+
+-- An item that is put as it is changes nothing.
+put_same :
+    (i : ItemId) (state : ItemState) (items : List MemberItem)
+    → AreRising items → state_of items i ≡ Some state → put_item (item_with i state) items ≡ items
+put_same i state items rising is =
+    rising_equal (put_item (item_with i state) items) items (put_rising (item_with i state) items rising) rising
+    (λ j. look_up_one (item_with i state) items j ∙ by_id j (same_item i j) refl)
+  where
+    by_id : (j : ItemId) (b : Bool) → same_item i j ≡ b → option_or (if b then Some state else None) (state_of items j) ≡ state_of items j
+    by_id j true e = sym is ∙ ap (state_of items) (same_item_is i j e)
+    by_id j false e = refl
+
+pub same_state : (i : ItemId) (items : List MemberItem) → AreRising items → with_state_of i (state_of items i) items ≡ items
+same_state i items rising = by_state (state_of items i) refl
+  where
+    by_state : (o : Option ItemState) → state_of items i ≡ o → with_state_of i o items ≡ items
+    by_state None e = drop_absent i items e
+    by_state (Some state) e = put_same i state items rising e
+
+-- Items that are taken away: the order stays, they are gone, and the others stay.
+pub drops_rising : (is : List ItemId) (xs : List MemberItem) → AreRising xs → AreRising (drop_all is xs)
+drops_rising [] xs rising = rising
+drops_rising (i ∷ is) xs rising = drops_rising is (drop_item i xs) (drop_rising i xs rising)
+
+drop_none :
+    (i : ItemId) (xs : List MemberItem) (j : ItemId)
+    → AreRising xs → state_of xs j ≡ None → state_of (drop_item i xs) j ≡ None
+drop_none i xs j rising none = by_test (same_item i j) refl
+  where
+    by_test : (b : Bool) → same_item i j ≡ b → state_of (drop_item i xs) j ≡ None
+    by_test true e = subst (λ (k : ItemId). state_of (drop_item i xs) k ≡ None) (same_item_is i j e) (drop_gone i xs rising)
+    by_test false e = drop_others i xs j (ids_differ i j e) ∙ none
+
+drops_none :
+    (is : List ItemId) (xs : List MemberItem) (j : ItemId)
+    → AreRising xs → state_of xs j ≡ None → state_of (drop_all is xs) j ≡ None
+drops_none [] xs j rising none = none
+drops_none (i ∷ is) xs j rising none =
+    drops_none is (drop_item i xs) j (drop_rising i xs rising) (drop_none i xs j rising none)
+
+pub drops_gone :
+    (is : List ItemId) (xs : List MemberItem) (j : ItemId)
+    → AreRising xs → Has j is → state_of (drop_all is xs) j ≡ None
+drops_gone [] xs j rising has = absurd has
+drops_gone (i ∷ is) xs j rising has =
+    elim has [
+      | inl same ↦
+          let gone : state_of (drop_item i xs) j ≡ None =
+          subst (λ (k : ItemId). state_of (drop_item i xs) k ≡ None) (sym same) (drop_gone i xs rising) in
+          drops_none is (drop_item i xs) j (drop_rising i xs rising) gone
+      | inr there ↦ drops_gone is (drop_item i xs) j (drop_rising i xs rising) there
+    ]
+
+pub drops_others :
+    (is : List ItemId) (xs : List MemberItem) (j : ItemId)
+    → ¬ Has j is → state_of (drop_all is xs) j ≡ state_of xs j
+drops_others [] xs j not = refl
+drops_others (i ∷ is) xs j not =
+    drops_others is (drop_item i xs) j (λ has. not (inr has)) ∙ drop_others i xs j (λ same. not (inl (sym same)))
