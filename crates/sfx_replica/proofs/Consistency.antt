@@ -34,7 +34,7 @@ use Rattle.sfx_model.proofs.Acts.{set_cases}
 use Rattle.sfx_model.proofs.Placing.{with_rising, with_found, with_others, state_rising, state_found, state_others}
 use Rattle.sfx_model.proofs.Steps.{same_item_is, same_item_self}
 use Rattle.sfx_model.specs.Readings.{first_clash, is_in_the_way, is_excepted}
-use Rattle.sfx_model.specs.Putting.{drop_all, put_all}
+use Rattle.sfx_model.specs.Putting.{drop_all, put_all, put_for, put_item}
 use Rattle.sfx_provider.specs.Commit.{CommitData}
 use Rattle.sfx_provider.specs.Fits.{Fits}
 use Rattle.sfx_provider.proofs.Commits.{IsStored, commits_consistent}
@@ -147,6 +147,13 @@ next_absent units m ok = by_state (state_of m.items (next_item m)) refl
         (ok.items (next_item m) state e).creation 0 ok.some in
         let own : vector_at m (At (next_item m)) 0 m.id ≡ m.clock = rw (eq-eqb m.id m.id refl) refl in
         absurd (omega (arith, low, own))
+
+-- So putting it adds it.
+pub next_put :
+    (units : ℕ) (m : Member) (values : List (List ℕ))
+    → IsConsistent units m → put_item (next_created m values) m.items ≡ with_item (next_created m values) m.items
+next_put units m values ok =
+    ap (λ (o : Option ItemState). put_for o (next_created m values) m.items) (next_absent units m ok)
 
 -- What stays when the clock rises and the items change.
 rises :

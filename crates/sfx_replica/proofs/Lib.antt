@@ -1,4 +1,3 @@
-pub mod Places
 pub mod Gathering
 pub mod Comparing
 pub mod Refusing

@@ -1,6 +1,6 @@
 -- What refuses a write to a unit of an item, by the item's state.
-use Rattle.std.proofs.Common.{◌≡◌, ℕ, ◌<◌, ◌≤◌, if◌then◌else◌, nat_eq, List, Some, None, refl}
-use Rattle.std.proofs.lemmas.Bool.{lt-ltb, le-ltb}
+use Rattle.std.proofs.Common.{◌≡◌, ℕ, ◌<◌, ◌≤◌, true, false, if◌then◌else◌, nat_eq, List, Some, None, inl, inr, refl}
+use Rattle.std.proofs.lemmas.Bool.{cases_lt, lt-ltb, le-ltb}
 use Rattle.sfx_ids.specs.declared.item_id.ItemId.{ItemId}
 use Rattle.sfx_ids.specs.declared.version.Version.{Version}
 use Rattle.sfx_item.specs.declared.cell.Cell.{Cell}
@@ -22,3 +22,10 @@ module _ (units : ℕ) (m : Member) (items : List MemberItem) (i : ItemId) (unit
       (cells : List Cell) → state_of items i ≡ Some (Live cells) → unit < units
       → state_refusal units m i unit value (state_of items i) ≡ or_next (if nat_eq unit 0 then name_refusal m (Some i) value else None) (full_clock m)
   refused_write cells live small = rw (live, lt-ltb unit units small) refl
+
+-- What is not below is not less
+pub past_from : (k u : ℕ) → (k < u → false ≡ true) → u ≤ k
+past_from k u never = elim (cases_lt k u) [
+  | inl less ↦ let bad = never less in absurd (cc)
+  | inr past ↦ past
+]

@@ -1,17 +1,63 @@
 -- What a write to one unit of a replica's item makes of its items.
-use Rattle.std.proofs.Common.{◌≡◌, ℕ, List, Some, None, if◌then◌else◌, nat_eq, slice_set, subst, sym, ◌∙◌}
+use Rattle.std.proofs.Common.{◌≡◌, ℕ, Bool, true, List, Some, None, if◌then◌else◌, nat_eq, get_or, set, slice_set, refl, subst, sym, ap, ◌∙◌}
+use Rattle.std.proofs.lemmas.List.{set-get_or}
 use Rattle.std.specs.List.{position_from}
 use Rattle.sfx_ids.specs.declared.item_id.ItemId.{ItemId}
+use Rattle.sfx_ids.specs.declared.version.Version.{Version}
 use Rattle.sfx_item.specs.declared.cell.Cell.{Cell}
 use Rattle.sfx_item.specs.declared.item.Item.{Item}
+use Rattle.sfx_item.specs.declared.state.State.{State}
+use Rattle.sfx_item.specs.declared.state.State.TheVariants.{Live as LiveRow, Dead as Tombstone}
 use Rattle.sfx_item.specs.Name.{IsName}
-use Rattle.sfx_model.specs.Items.{items_view}
-use Rattle.sfx_model.specs.Members.{Live, Member, MemberItem, state_of}
+use Rattle.sfx_model.specs.Items.{items_view, state_view}
+use Rattle.sfx_model.specs.Members.{Live, Dead, Member, MemberItem, state_of}
 use Rattle.sfx_model.specs.States.{cells_with, next_version, with_state}
 use Rattle.sfx_replica.specs.Items.{IsTarget}
 use Rattle.sfx_replica.specs.Refusals.{full_clock, name_refusal, or_next}
 use Rattle.sfx_replica.proofs.Consistency.{MayWrite, may_write_unit}
-use Rattle.sfx_replica.proofs.Places.{has_id}
+use Rattle.sfx_items.specs.Places.{has_id}
+use Rattle.sfx_items.proofs.ItemListLemmas.{IsPlace, at_place, id_there, state_there}
+
+-- an item put back with other cells has another state in its place
+pub edited_view : {U : ℕ} (xs : List (Item U)) (i : ItemId) (k : ℕ) (old y : Item U) (cells : List Cell)
+    → IsPlace xs i k → old ≡ get_or xs k old → y.id ≡ old.id → state_view y.state ≡ Live cells
+    → items_view (set xs k y) ≡ with_state i (Live cells) (items_view xs)
+edited_view {U} xs i k old y cells place is same live =
+    let put = place.put y (same ∙ id_there xs i k old place is) in
+    rw live at put
+
+-- a cell put in the place of one of the unit's, and nothing put
+pub written_view : {U : ℕ} (xs : List (Item U)) (i : ItemId) (k unit : ℕ) (old : Item U) (row after cells : List Cell) (cell : Cell) (done : Bool)
+    → position_from (has_id i) 0 xs ≡ Some k → old ≡ get_or xs k old → old.state ≡ LiveRow row
+    → state_of (items_view xs) i ≡ Some (Live cells)
+    → after ≡ (if done then slice_set row unit cell else row) → done ≡ true
+    → items_view (set xs k (record { id = old.id; state = LiveRow after })) ≡ with_state i (Live (slice_set cells unit cell)) (items_view xs)
+written_view {U} xs i k unit old row after cells cell done found is state live put made =
+    let place = at_place xs xs i k (Some k) refl (sym found) refl in
+    let both : Some (Live row) ≡ Some (Live cells) =
+    ap (λ (s : State U). Some (state_view s)) (sym state) ∙ (sym (state_there xs i k old place is) ∙ live) in
+    let rows : row ≡ cells = cc in
+    let new : after ≡ slice_set cells unit cell = rw (made, rows) at put in
+    edited_view xs i k old (record { id = old.id; state = LiveRow after }) (slice_set cells unit cell) place is refl
+    (ap (λ (c : List Cell). Live c) new)
+
+pub unwritten : {U : ℕ} (xs : List (Item U)) (k : ℕ) (old : Item U) (row after : List Cell)
+    → old ≡ get_or xs k old → old.state ≡ LiveRow row → after ≡ row
+    → set xs k (record { id = old.id; state = LiveRow after }) ≡ xs
+unwritten {U} xs k old row after is state same =
+    let back : LiveRow after ≡ old.state = ap (λ (c : List Cell). LiveRow c) same ∙ sym state in
+    ap (λ (s : State U). set xs k (record { id = old.id; state = s })) back
+    ∙ (ap (λ (x : Item U). set xs k x) is ∙ set-get_or xs k old)
+
+-- no tombstone is live
+pub none_dead : {U : ℕ} {P : Type 0} (xs : List (Item U)) (i : ItemId) (k : ℕ) (old : Item U) (v : Version) (cells : List Cell)
+    → position_from (has_id i) 0 xs ≡ Some k → old ≡ get_or xs k old → old.state ≡ Tombstone v
+    → state_of (items_view xs) i ≡ Some (Live cells) → P
+none_dead {U} xs i k old v cells found is state live =
+    let place = at_place xs xs i k (Some k) refl (sym found) refl in
+    let both : Some (Dead v) ≡ Some (Live cells) =
+    ap (λ (s : State U). Some (state_view s)) (sym state) ∙ (sym (state_there xs i k old place is) ∙ live) in
+    absurd (cc)
 
 -- The items are those of the replica after a value that may be written was written to a unit of a live one.
 pub record IsWritten (units : ℕ) (m : Member) (i : ItemId) (k : ℕ) (value : List ℕ) (items : List MemberItem) : Type 0 where

@@ -1,5 +1,5 @@
--- The list of a replica's items.
-use Rattle.std.specs.Prelude.{◌≡◌, ℕ, zero, suc, ◌<◌, Bool, ◌&&◌, if◌then◌else◌, Some, List, [], ◌∷◌}
+-- Which of a replica's items are looked for, and which are written to.
+use Rattle.std.specs.Prelude.{◌≡◌, ℕ, ◌<◌, Bool, ◌&&◌, Some, List}
 use Rattle.std.specs.List.{position_from}
 use Rattle.sfx_ids.specs.declared.cut.Cut.{Cut}
 use Rattle.sfx_ids.specs.declared.cut.Cut.TheVariants.{At}
@@ -8,16 +8,10 @@ use Rattle.sfx_ids.specs.declared.item_id.ItemId.{ItemId}
 use Rattle.sfx_item.specs.declared.cell.Cell.{Cell}
 use Rattle.sfx_item.specs.declared.item.Item.{Item}
 use Rattle.sfx_knowledge.specs.Knowledge.{Known}
-use Rattle.sfx_model.specs.Events.{same_item}
+use Rattle.sfx_items.specs.Places.{has_id}
 use Rattle.sfx_model.specs.Items.{items_view}
 use Rattle.sfx_model.specs.Members.{Live, MemberItem, state_of}
 use Rattle.sfx_model.specs.Readings.{is_unseen}
-use Rattle.sfx_model.specs.States.{is_id_below}
-
--- How many items stand before the place of one with this id: those at the front with a lower id.
-abbrev pub place_for : ItemId → List MemberItem → ℕ
-place_for i [] = zero
-place_for i (x ∷ xs) = if is_id_below x.id i then suc (place_for i xs) else zero
 
 -- The item's place is not before this one, and it has a unit whose version the knowledge does not contain.
 abbrev pub is_next_unseen : ℕ → Known → Cut → MemberItem → Bool
@@ -25,7 +19,7 @@ is_next_unseen units known from x = cut_le from (At x.id) && is_unseen units kno
 
 -- The item with this id is a live one at this place, and `unit` is its unit with this number.
 pub record IsTarget {U : ℕ} (items : List (Item U)) (i : ItemId) (k place unit : ℕ) : Type 0 where
-  pub found : position_from (λ x. same_item x.id i) 0 items ≡ Some place
+  pub found : position_from (has_id i) 0 items ≡ Some place
   pub live : (cells : List Cell) × (state_of (items_view items) i ≡ Some (Live cells))
   pub same : unit ≡ k
   pub inside : k < U

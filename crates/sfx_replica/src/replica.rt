@@ -3,13 +3,14 @@ ghost use Rattle.std.specs.Prelude.{◌≡◌, ◌≤◌, ◌↔◌, if◌then�
 
 use crate::EditFault;
 use crate::clashes::{clashing, first_clash};
-use crate::items::{cells_at, drop_all, first_from, insert, place_of, put_copies, target, write};
+use crate::items::{cells_at, target, write};
 use crate::live::same_live;
 use crate::unseen::unseen;
 use sfx_ids::{Cut, ItemId, MAX_TICK, Memory, ReplicaId, Tick, UnitId, Version};
 use sfx_item::{Cell, Item, Name, NameFault, Row, State, Value};
+use sfx_items::{copies, drop_all, find, first_from, put, put_all};
 use sfx_knowledge::{Forgotten, Knowledge};
-use sfx_provider::{Commit, Head, copies};
+use sfx_provider::{Commit, Head};
 use std::alloc::Global;
 use std::marker::Model;
 
@@ -169,8 +170,7 @@ impl<const U: usize> Replica<U> {
         ensures state { option_map (λ x. state_view x.now.state) result ≡ state_of self.now.items id.now }
         ensures same { IfSome result (λ x. x.now.id ≡ id.now) }
     {
-        let place = place_of(self.items.as_slice(), id)?;
-        Some(&self.items[place])
+        find(self.items.as_slice(), id)
     }
 
     /// The first item whose place is not before `from`, or `None` where there is none.
@@ -234,7 +234,7 @@ impl<const U: usize> Replica<U> {
     {
         let item = self.new_item(values)?;
         let id = item.id;
-        insert(&mut self.items, item)?;
+        put(&mut self.items, item)?;
         self.clock += 1;
         Ok(id)
     }
@@ -274,7 +274,8 @@ impl<const U: usize> Replica<U> {
         let alloc = *self.items.allocator();
         let knowledge = commit.knowledge.without_own(alloc, &self.id)?;
         let forgotten = commit.forgotten.copy(alloc)?;
-        put_copies(alloc, &mut self.items, commit.puts.as_slice())?;
+        let puts = copies(alloc, commit.puts.as_slice())?;
+        put_all(&mut self.items, puts)?;
         drop_all(&mut self.items, commit.drops.as_slice());
         self.clock = commit.clock;
         self.knowledge = knowledge;

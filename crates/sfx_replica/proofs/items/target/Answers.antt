@@ -1,7 +1,7 @@
 use Rattle.std.proofs.Common.{◌∙◌, Some, ap, arith, refl, sym}
 use Rattle.sfx_model.specs.Items.{items_view, state_view}
-use Rattle.sfx_replica.proofs.Places.{at_place, not_there, past_from}
-use Rattle.sfx_replica.proofs.Refusing.{refused_absent, refused_dead, refused_unit}
+use Rattle.sfx_items.proofs.ItemListLemmas.{at_place, not_there}
+use Rattle.sfx_replica.proofs.Refusing.{past_from, refused_absent, refused_dead, refused_unit}
 use Rattle.sfx_replica.proofs.items.target.Goals as goal
 
 pub returns-in_default-clause-err : goal.returns-in_default-clause-err

@@ -1,5 +1,5 @@
 use Rattle.std.proofs.lemmas.Result.{err_from_is_err_and}
-use Rattle.sfx_replica.proofs.Places.{none_dead, unwritten, written_view}
+use Rattle.sfx_replica.proofs.Writing.{none_dead, unwritten, written_view}
 use Rattle.sfx_replica.proofs.items.write.Goals as goal
 
 pub index_mut-requires : goal.index_mut-requires

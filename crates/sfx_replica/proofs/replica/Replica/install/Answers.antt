@@ -1,6 +1,7 @@
-use Rattle.std.proofs.Common.{◌≡◌, ◌∙◌, List, ap, sym, subst, refl}
+use Rattle.std.proofs.Common.{◌≡◌, ◌∙◌, List, ap, arith, sym, subst, refl}
 use Rattle.std.proofs.lemmas.Result.{err_from_is_err_and}
 use Rattle.sfx_item.specs.declared.item.Item.{Item}
+use Rattle.sfx_items.proofs.ItemListLemmas.{puts_rising}
 use Rattle.sfx_model.specs.Items.{items_view}
 use Rattle.sfx_model.specs.Members.{Member}
 use Rattle.sfx_model.specs.Putting.{drop_all, put_all}
@@ -10,12 +11,23 @@ use Rattle.sfx_replica.specs.Replica.{member_view}
 use Rattle.sfx_replica.proofs.Consistency.{installed_consistent}
 use Rattle.sfx_replica.proofs.replica.Replica.install.Goals as goal
 
+pub drop_all-requires : goal.drop_all-requires
+drop_all-requires g c =
+    let drops : c.as_slice-2.result.now ≡ c.args.commit.now.drops =
+    c.as_slice-2.ensures.value ∙ ap (λ (x : CommitData). x.drops) c.commit.view_is in (
+      omega arith,
+      (
+        rw c.in_ok-put_all.ensures.ok (puts_rising (items_view c.in_ok-puts.puts.items) (items_view c.self.inside.items.items) c.self.invariant.rising),
+        rw drops c.requires.fits.drops,
+      ),
+    )
+
 pub invariant_of-self-2 : goal.invariant_of-self-2
 invariant_of-self-2 g c =
     let m = member_view c.self.inside.id c.self.inside.clock c.self.inside.knowledge c.self.inside.forgotten c.self.inside.items.items in
     let fits : Fits g.row.U c.args.commit.now m = subst (λ (x : Member). Fits g.row.U c.args.commit.now x) (sym c.self.view_is) c.requires.fits in
-    let put : items_view c.put_copies.new.items.items ≡ put_all (items_view c.commit.inside.puts.items) m.items =
-    rw (c.in_ok-put_copies.ensures.ok, c.as_slice.ensures.value) refl in
+    let put : items_view c.put_all.new.items.items ≡ put_all (items_view c.commit.inside.puts.items) m.items =
+    rw (c.in_ok-put_all.ensures.ok, c.in_ok-puts.ensures, c.as_slice.ensures.value) refl in
     let items : items_view c.drop_all.new.items.items ≡ drop_all c.commit.inside.drops.items (put_all (items_view c.commit.inside.puts.items) m.items) =
     rw (c.drop_all.ensures, c.as_slice-2.ensures.value, put) refl in
     let commit : CommitData = record { clock = c.commit.inside.clock; knowledge = c.commit.inside.knowledge; forgotten = c.commit.inside.forgotten; puts = items_view c.commit.inside.puts.items; drops = c.commit.inside.drops.items } in
@@ -44,25 +56,25 @@ returns-in_err-forgotten-clause-err g c =
     rw is refl
 
 pub invariant_of-self : goal.invariant_of-self
-invariant_of-self g c = rw c.in_err-put_copies.ensures.err c.self.invariant
+invariant_of-self g c = rw c.in_err-put_all.ensures.err c.self.invariant
 
-pub returns-in_err-put_copies-clause-ok : goal.returns-in_err-put_copies-clause-ok
-returns-in_err-put_copies-clause-ok g c =
-    let (fault, is, same) = err_from_is_err_and c.from_residual-in_err-put_copies.result c.from_residual-in_err-put_copies.ensures.1 in
+pub returns-in_err-put_all-clause-ok : goal.returns-in_err-put_all-clause-ok
+returns-in_err-put_all-clause-ok g c =
+    let (fault, is, same) = err_from_is_err_and c.from_residual-in_err-put_all.result c.from_residual-in_err-put_all.ensures.1 in
     rw is tt
 
-pub returns-in_err-put_copies-clause-err : goal.returns-in_err-put_copies-clause-err
-returns-in_err-put_copies-clause-err g c =
-    let (fault, is, same) = err_from_is_err_and c.from_residual-in_err-put_copies.result c.from_residual-in_err-put_copies.ensures.1 in
+pub returns-in_err-put_all-clause-err : goal.returns-in_err-put_all-clause-err
+returns-in_err-put_all-clause-err g c =
+    let (fault, is, same) = err_from_is_err_and c.from_residual-in_err-put_all.result c.from_residual-in_err-put_all.ensures.1 in
     rw is
-    (ap (λ (xs : List (Item g.row.U)). member_view c.self.inside.id c.self.inside.clock c.self.inside.knowledge c.self.inside.forgotten xs) c.in_err-put_copies.ensures.err
+    (ap (λ (xs : List (Item g.row.U)). member_view c.self.inside.id c.self.inside.clock c.self.inside.knowledge c.self.inside.forgotten xs) c.in_err-put_all.ensures.err
     ∙ c.self.view_is)
 
 pub returns-clause-ok : goal.returns-clause-ok
 returns-clause-ok g c =
     let m = member_view c.self.inside.id c.self.inside.clock c.self.inside.knowledge c.self.inside.forgotten c.self.inside.items.items in
-    let put : items_view c.put_copies.new.items.items ≡ put_all (items_view c.commit.inside.puts.items) m.items =
-    rw (c.in_ok-put_copies.ensures.ok, c.as_slice.ensures.value) refl in
+    let put : items_view c.put_all.new.items.items ≡ put_all (items_view c.commit.inside.puts.items) m.items =
+    rw (c.in_ok-put_all.ensures.ok, c.in_ok-puts.ensures, c.as_slice.ensures.value) refl in
     let items : items_view c.drop_all.new.items.items ≡ drop_all c.commit.inside.drops.items (put_all (items_view c.commit.inside.puts.items) m.items) =
     rw (c.drop_all.ensures, c.as_slice-2.ensures.value, put) refl in
     let commit : CommitData = record { clock = c.commit.inside.clock; knowledge = c.commit.inside.knowledge; forgotten = c.commit.inside.forgotten; puts = items_view c.commit.inside.puts.items; drops = c.commit.inside.drops.items } in

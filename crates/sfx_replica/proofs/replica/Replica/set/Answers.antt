@@ -11,7 +11,7 @@ use Rattle.sfx_model.proofs.Acts.{edited_acts}
 use Rattle.sfx_replica.specs.Edits.{edited, edited_from, risen}
 use Rattle.sfx_replica.specs.Replica.{member_view}
 use Rattle.sfx_replica.proofs.Consistency.{edited_consistent}
-use Rattle.sfx_replica.proofs.Places.{at_place}
+use Rattle.sfx_items.proofs.ItemListLemmas.{at_place}
 use Rattle.sfx_replica.proofs.Refusing.{refused_write}
 use Rattle.sfx_replica.proofs.Writing.{IsWritten, written}
 use Rattle.sfx_replica.proofs.replica.Replica.set.Goals as goal
