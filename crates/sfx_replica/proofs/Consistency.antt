@@ -1,7 +1,7 @@
 -- Edits keep a replica's state consistent.
 use Rattle.std.proofs.Common.{◌≡◌, ◌≢◌, ◌⊎◌, ℕ, zero, suc, ◌+◌, ◌<◌, ◌≤◌, ◌^◌, Bool, true, false, if◌then◌else◌, nat_eq, nat_lt, List, [], ◌∷◌, length, get_or, Option, Some, None, inl, inr, refl, sym, ◌∙◌, ap, subst, arith}
 use Rattle.std.specs.Prelude.{slice_get, slice_set}
-use Rattle.std.specs.Option.{option_map}
+use Rattle.std.specs.Option.{option_map, option_or}
 use Rattle.std.proofs.lemmas.Bool.{eq-eqb, ltb-true}
 use Rattle.std.proofs.lemmas.List.{length-map}
 use Rattle.std.proofs.Math.ListN.{length-set}
@@ -41,10 +41,12 @@ use Rattle.sfx_provider.proofs.Commits.{IsStored, commits_consistent}
 use Rattle.sfx_replica.specs.Edits.{new_member, risen, created}
 use Rattle.sfx_replica.specs.declared.edit_fault.EditFault.{EditFault}
 use Rattle.sfx_replica.specs.declared.edit_fault.EditFault.TheVariants.{BadUnit, ClockFull, Memory}
-use Rattle.sfx_replica.specs.Refusals.{or_next, bad_name, clash, full_clock, name_refusal, first_name_refusal, create_refusal, write_refusal}
+use Rattle.sfx_provider.specs.Answer.{When}
+use Rattle.sfx_provider.proofs.Causes.{when_then}
+use Rattle.sfx_replica.specs.Refusals.{bad_name, clash, full_clock, name_refusal, first_name_refusal, create_refusal, is_refusal, write_refusal}
 
 -- Where neither refuses, each of them does not.
-pub both_none : (a b : Option EditFault) → or_next a b ≡ None → (a ≡ None) × (b ≡ None)
+pub both_none : (a b : Option EditFault) → option_or a b ≡ None → (a ≡ None) × (b ≡ None)
 both_none None b none = (refl, none)
 both_none (Some fault) b none = let bad : Some fault ≡ None = none in absurd (cc)
 
@@ -258,7 +260,7 @@ pub created_consistent :
 created_consistent units m values ok whole none = by_first (slice_get values 0) refl none
   where
     by_first :
-        (o : Option (List ℕ)) → slice_get values 0 ≡ o → or_next (first_name_refusal m o) (full_clock m) ≡ None
+        (o : Option (List ℕ)) → slice_get values 0 ≡ o → option_or (first_name_refusal m o) (full_clock m) ≡ None
         → IsConsistent units (created m values)
     by_first None first free = absurd (no_first values whole first)
       where
@@ -396,7 +398,7 @@ pub record MayWrite (units : ℕ) (m : Member) (i : ItemId) (unit : ℕ) (value 
 
 pub may_write_unit :
     (units : ℕ) (m : Member) (i : ItemId) (unit : ℕ) (value : List ℕ)
-    → unit < units → or_next (if nat_eq unit 0 then name_refusal m (Some i) value else None) (full_clock m) ≡ None
+    → unit < units → option_or (if nat_eq unit 0 then name_refusal m (Some i) value else None) (full_clock m) ≡ None
     → MayWrite units m i unit value
 may_write_unit units m i unit value small none =
     let (named, room) = both_none (if nat_eq unit 0 then name_refusal m (Some i) value else None) (full_clock m) none in
@@ -415,7 +417,7 @@ may_write units m i unit value none = by_unit (nat_lt unit units) refl none
   where
     by_unit :
         (b : Bool) → nat_lt unit units ≡ b
-        → (if b then or_next (if nat_eq unit 0 then name_refusal m (Some i) value else None) (full_clock m) else Some (BadUnit unit units)) ≡ None
+        → (if b then option_or (if nat_eq unit 0 then name_refusal m (Some i) value else None) (full_clock m) else Some (BadUnit unit units)) ≡ None
         → MayWrite units m i unit value
     by_unit true less free = may_write_unit units m i unit value (ltb-true unit units less) free
     by_unit false more free = let bad : Some (BadUnit unit units) ≡ None = free in absurd (cc)
@@ -530,16 +532,25 @@ installed_consistent units c m known forgotten items good fits form ticks own fo
     rw (own, forgets, holds) (commits_consistent units c m good stored fits)
 
 -- What refuses the first value, or where nothing does the next version, refuses a creation.
+first_refuses :
+    (m : Member) (values : List (List ℕ)) (name : List ℕ) (fault : EditFault)
+    → slice_get values 0 ≡ Some name → name_refusal m None name ≡ Some fault → create_refusal m values ≡ Some fault
+first_refuses m values name fault first refused = rw (first, refused) refl
+
+next_refuses :
+    (m : Member) (values : List (List ℕ)) (name : List ℕ) (fault : EditFault)
+    → slice_get values 0 ≡ Some name → name_refusal m None name ≡ None → full_clock m ≡ Some fault
+    → create_refusal m values ≡ Some fault
+next_refuses m values name fault first free refused = rw (first, free, refused) refl
+
 pub refused_first :
     (m : Member) (values : List (List ℕ)) (name : List ℕ) (fault : EditFault)
-    → slice_get values 0 ≡ Some name → (fault ≡ Memory) ⊎ (name_refusal m None name ≡ Some fault)
-    → (fault ≡ Memory) ⊎ (create_refusal m values ≡ Some fault)
-refused_first m values name fault first (inl memory) = inl memory
-refused_first m values name fault first (inr refused) = inr (rw (first, refused) refl)
+    → slice_get values 0 ≡ Some name → When (is_refusal fault) (name_refusal m None name ≡ Some fault)
+    → When (is_refusal fault) (create_refusal m values ≡ Some fault)
+refused_first m values name fault first refused = when_then (is_refusal fault) (first_refuses m values name fault first) refused
 
 pub refused_next :
     (m : Member) (values : List (List ℕ)) (name : List ℕ) (fault : EditFault)
-    → slice_get values 0 ≡ Some name → name_refusal m None name ≡ None → (fault ≡ Memory) ⊎ (full_clock m ≡ Some fault)
-    → (fault ≡ Memory) ⊎ (create_refusal m values ≡ Some fault)
-refused_next m values name fault first free (inl memory) = inl memory
-refused_next m values name fault first free (inr refused) = inr (rw (first, free, refused) refl)
+    → slice_get values 0 ≡ Some name → name_refusal m None name ≡ None → When (is_refusal fault) (full_clock m ≡ Some fault)
+    → When (is_refusal fault) (create_refusal m values ≡ Some fault)
+refused_next m values name fault first free refused = when_then (is_refusal fault) (next_refuses m values name fault first free) refused

@@ -1,6 +1,7 @@
 -- What a write to one unit of a replica's item makes of its items.
 use Rattle.std.proofs.Common.{◌≡◌, ℕ, Bool, true, List, Some, None, if◌then◌else◌, nat_eq, get_or, set, slice_set, refl, subst, sym, ap, ◌∙◌}
 use Rattle.std.proofs.lemmas.List.{set-get_or}
+use Rattle.std.specs.Option.{option_or}
 use Rattle.std.specs.List.{position_from}
 use Rattle.sfx_ids.specs.declared.item_id.ItemId.{ItemId}
 use Rattle.sfx_ids.specs.declared.version.Version.{Version}
@@ -13,7 +14,7 @@ use Rattle.sfx_model.specs.Items.{items_view, state_view}
 use Rattle.sfx_model.specs.Members.{Live, Dead, Member, MemberItem, state_of}
 use Rattle.sfx_model.specs.States.{cells_with, next_version, with_state}
 use Rattle.sfx_replica.specs.Items.{IsTarget}
-use Rattle.sfx_replica.specs.Refusals.{full_clock, name_refusal, or_next}
+use Rattle.sfx_replica.specs.Refusals.{full_clock, name_refusal}
 use Rattle.sfx_replica.proofs.Consistency.{MayWrite, may_write_unit}
 use Rattle.sfx_items.specs.Places.{has_id}
 use Rattle.sfx_items.proofs.ItemListLemmas.{IsPlace, at_place, id_there, state_there}
@@ -69,7 +70,7 @@ pub record IsWritten (units : ℕ) (m : Member) (i : ItemId) (k : ℕ) (value : 
 pub written :
     {U : ℕ} (m n : Member) (xs ys after : List (Item U)) (i : ItemId) (k place unit : ℕ) (value : List ℕ) (cell : Cell)
     → m ≡ n → items_view xs ≡ m.items → ys ≡ xs → IsTarget ys i k place unit
-    → or_next (if nat_eq k 0 then name_refusal n (Some i) value else None) (full_clock n) ≡ None
+    → option_or (if nat_eq k 0 then name_refusal n (Some i) value else None) (full_clock n) ≡ None
     → cell ≡ record { version = next_version n; value = value }
     → ((j : ItemId) (cells : List Cell) → position_from (has_id j) 0 xs ≡ Some place → state_of (items_view xs) j ≡ Some (Live cells)
     → (unit ≡ 0 → IsName cell.value) → items_view after ≡ with_state j (Live (slice_set cells unit cell)) (items_view xs))

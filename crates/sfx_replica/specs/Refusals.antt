@@ -1,24 +1,24 @@
 -- When an edit of a replica is refused, and why: the first cause in the stated order.
-use Rattle.std.specs.Prelude.{◌≡◌, ◌⊎◌, ℕ, if◌then◌else◌, nat_eq, nat_lt, List, Option, Some, None, Result, Ok, Err, slice_get}
-use Rattle.std.specs.Option.{option_map}
+use Rattle.std.specs.Prelude.{ℕ, Bool, true, false, if◌then◌else◌, nat_eq, nat_lt, List, Option, Some, None, slice_get}
+use Rattle.std.specs.Option.{option_map, option_or}
 use Rattle.sfx_ids.specs.declared.item_id.ItemId.{ItemId}
 use Rattle.sfx_ids.specs.Tick.{max_tick}
 use Rattle.sfx_item.specs.Decided.{name_fault}
 use Rattle.sfx_model.specs.Members.{ItemState, Live, Dead, Member, state_of}
 use Rattle.sfx_replica.specs.declared.edit_fault.EditFault.{EditFault}
-use Rattle.sfx_replica.specs.declared.edit_fault.EditFault.TheVariants.{NoItem, Deleted, BadUnit, BadName, Clash, ClockFull, Memory}
+use Rattle.sfx_replica.specs.declared.edit_fault.EditFault.TheVariants.{NoItem, Deleted, BadUnit, BadName, Clash, ClockFull, NotDeleted, Memory}
 use Rattle.sfx_model.specs.Readings.{first_clash}
 
--- The answer agrees with what refuses the edit: it is Ok exactly where nothing does, and else this
--- refusal. Want of memory may come in the place of either.
-abbrev pub Refuses : {A : Type 0} → Result A EditFault → Option EditFault → Type 0
-Refuses (Ok x) refusal = refusal ≡ None
-Refuses (Err fault) refusal = (fault ≡ Memory) ⊎ (refusal ≡ Some fault)
-
--- The first of both refusals.
-abbrev pub or_next : Option EditFault → Option EditFault → Option EditFault
-or_next (Some fault) next = Some fault
-or_next None next = next
+-- The edit was refused: any fault but want of memory is a refusal.
+abbrev pub is_refusal : EditFault → Bool
+is_refusal NoItem = true
+is_refusal Deleted = true
+is_refusal (BadUnit k u) = true
+is_refusal (BadName at) = true
+is_refusal (Clash item) = true
+is_refusal (ClockFull clock) = true
+is_refusal NotDeleted = true
+is_refusal Memory = false
 
 -- The bytes are no name.
 abbrev pub bad_name : List ℕ → Option EditFault
@@ -34,7 +34,7 @@ full_clock m = if nat_lt m.clock max_tick then None else Some (ClockFull m.clock
 
 -- The value may not name an item, which is the excepted one where there is one.
 abbrev pub name_refusal : Member → Option ItemId → List ℕ → Option EditFault
-name_refusal m except name = or_next (bad_name name) (clash m except name)
+name_refusal m except name = option_or (bad_name name) (clash m except name)
 
 -- The same of the value for unit 0, where there is one.
 abbrev pub first_name_refusal : Member → Option (List ℕ) → Option EditFault
@@ -43,13 +43,13 @@ first_name_refusal m (Some name) = name_refusal m None name
 
 -- An item with these values may not be created.
 abbrev pub create_refusal : Member → List (List ℕ) → Option EditFault
-create_refusal m values = or_next (first_name_refusal m (slice_get values 0)) (full_clock m)
+create_refusal m values = option_or (first_name_refusal m (slice_get values 0)) (full_clock m)
 
 -- The value may not be written to the unit of a live item.
 abbrev pub write_refusal : ℕ → Member → ItemId → ℕ → List ℕ → Option EditFault
 write_refusal units m i unit value =
     if nat_lt unit units then
-    or_next (if nat_eq unit 0 then name_refusal m (Some i) value else None) (full_clock m)
+    option_or (if nat_eq unit 0 then name_refusal m (Some i) value else None) (full_clock m)
     else Some (BadUnit unit units)
 
 -- The value may not be written to the unit of an item in this state.

@@ -1,4 +1,4 @@
-ghost use Rattle.std.specs.Option.{option_copied, option_map, option_map_or};
+ghost use Rattle.std.specs.Option.{option_copied, option_map, option_map_or, option_or};
 ghost use Rattle.std.specs.Prelude.{◌≡◌, ◌≤◌, ◌↔◌, if◌then◌else◌, nat_eq, Some, None, length, map, take, IsTrue, IfOk, OnOk, OnErr, IfSome};
 
 use crate::EditFault;
@@ -51,12 +51,13 @@ impl<const U: usize> Replica<U> {
     ghost use Rattle.sfx_model.specs.States.{created_contents, edited_contents, next_created, next_item, next_version};
     ghost use Rattle.sfx_model.specs.World.{WellFormed, World};
     ghost use Rattle.sfx_model.specs.Readings.{clashing_with, unseen};
+    ghost use Rattle.sfx_provider.specs.Answer.{Refuses};
     ghost use Rattle.sfx_provider.specs.Commit.{committed};
     ghost use Rattle.sfx_provider.specs.Fits.{Fits};
     ghost use Rattle.sfx_provider.specs.Head.{head_of};
     ghost use Rattle.sfx_replica.specs.Edits.{created, edited, new_member};
     ghost use Rattle.sfx_model.specs.Readings.{first_from};
-    ghost use Rattle.sfx_replica.specs.Refusals.{Refuses, create_refusal, full_clock, name_refusal, or_next, set_refusal};
+    ghost use Rattle.sfx_replica.specs.Refusals.{create_refusal, full_clock, is_refusal, name_refusal, set_refusal};
 
     /// A replica that has made, learned and forgotten nothing.
     ///
@@ -226,7 +227,7 @@ impl<const U: usize> Replica<U> {
     /// item's, `ClockFull`, and `Memory`. Nothing has changed then.
     pub fn create(&mut self, values: Vec<Value>) -> Result<ItemId, EditFault>
         requires whole { length values.items ≡ U }
-        ensures refused { Refuses result (create_refusal self.old values.items) }
+        ensures refused { Refuses is_refusal result (create_refusal self.old values.items) }
         ensures made { IfOk result (λ id. id ≡ next_item self.old) }
         ensures after { OnOk result (self.new ≡ created self.old values.items) }
         ensures err { OnErr result (self.new ≡ self.old) }
@@ -247,7 +248,7 @@ impl<const U: usize> Replica<U> {
     /// unit; for unit 0 `BadName` where the value is no name, and `Clash` where it clashes with the name
     /// of another live item; `ClockFull`, and `Memory`. Nothing has changed then.
     pub fn set(&mut self, id: &ItemId, k: usize, value: Value) -> Result<Version, EditFault>
-        ensures refused { Refuses result (set_refusal U self.old id.now k value) }
+        ensures refused { Refuses is_refusal result (set_refusal U self.old id.now k value) }
         ensures made { IfOk result (λ version. version ≡ next_version self.old) }
         ensures after { OnOk result (self.new ≡ edited self.old id.now k value) }
         ensures err { OnErr result (self.new ≡ self.old) }
@@ -286,7 +287,7 @@ impl<const U: usize> Replica<U> {
     /// The item that is created next with these values.
     fn new_item(&self, values: Vec<Value>) -> Result<Item<U>, EditFault>
         requires whole { length values.items ≡ U }
-        ensures refused { Refuses result (create_refusal self.now values.items) }
+        ensures refused { Refuses is_refusal result (create_refusal self.now values.items) }
         ensures value { IfOk result (λ item. item_view item ≡ next_created self.now values.items) }
     {
         let alloc = *self.items.allocator();
@@ -304,7 +305,7 @@ impl<const U: usize> Replica<U> {
 
     /// The cell that is written next to the unit of the item.
     fn next_cell(&self, id: &ItemId, k: usize, value: Value) -> Result<Cell, EditFault>
-        ensures refused { Refuses result (or_next (if nat_eq k 0 then name_refusal self.now (Some id.now) value else None) (full_clock self.now)) }
+        ensures refused { Refuses is_refusal result (option_or (if nat_eq k 0 then name_refusal self.now (Some id.now) value else None) (full_clock self.now)) }
         ensures value { IfOk result (λ cell. cell ≡ (record { version = next_version self.now; value = value })) }
     {
         self.check_value(id, k, &value)?;
@@ -317,7 +318,7 @@ impl<const U: usize> Replica<U> {
     /// Refuses a value that may not be written to the unit of the item: for unit 0 one that may not
     /// name it.
     fn check_value(&self, id: &ItemId, k: usize, value: &Value) -> Result<(), EditFault>
-        ensures { Refuses result (if nat_eq k 0 then name_refusal self.now (Some id.now) value.now else None) }
+        ensures { Refuses is_refusal result (if nat_eq k 0 then name_refusal self.now (Some id.now) value.now else None) }
     {
         if k != 0 {
             return Ok(());
@@ -327,7 +328,7 @@ impl<const U: usize> Replica<U> {
 
     /// Refuses a value that may not name an item, which is the excepted one where there is one.
     fn check_name(&self, name: &[u8], except: Option<&ItemId>) -> Result<(), EditFault>
-        ensures { Refuses result (name_refusal self.now (option_copied except.entry) name.now) }
+        ensures { Refuses is_refusal result (name_refusal self.now (option_copied except.entry) name.now) }
     {
         let name = match Name::read(*self.items.allocator(), name) {
             Ok(name) => name,
@@ -342,7 +343,7 @@ impl<const U: usize> Replica<U> {
 
     /// The version that is made next.
     fn next_version(&self) -> Result<Version, EditFault>
-        ensures refused { Refuses result (full_clock self.now) }
+        ensures refused { Refuses is_refusal result (full_clock self.now) }
         ensures value { IfOk result (λ version. version ≡ next_version self.now) }
     {
         if self.clock >= MAX_TICK {

@@ -1,4 +1,4 @@
-use Rattle.std.proofs.Common.{◌≡◌, ◌<◌, Some, None, inl, length, slice_get, arith}
+use Rattle.std.proofs.Common.{◌≡◌, ◌<◌, Some, None, length, slice_get, arith}
 use Rattle.std.proofs.lemmas.Result.{err_from_is_err_and}
 use Rattle.sfx_item.specs.Row.{IsRow}
 use Rattle.sfx_model.specs.States.{cells_at}
@@ -44,12 +44,12 @@ returns-in_err-version-clause-value g c =
 pub returns-in_err-cells_at : goal.returns-in_err-cells_at
 returns-in_err-cells_at g c =
     let (fault, is, same) = err_from_is_err_and c.from_residual-in_err-cells_at.result c.from_residual-in_err-cells_at.ensures.1 in
-    record { refused = rw is (inl same); value = rw is tt }
+    record { refused = rw (is, same) tt; value = rw is tt }
 
 pub returns-in_err-new : goal.returns-in_err-new
 returns-in_err-new g c =
     let (fault, is, same) = err_from_is_err_and c.from_residual-in_err-new.result c.from_residual-in_err-new.ensures.1 in
-    record { refused = rw is (inl same); value = rw is tt }
+    record { refused = rw (is, same) tt; value = rw is tt }
 
 pub returns-clause-refused : goal.returns-clause-refused
 returns-clause-refused g c =

@@ -1,4 +1,4 @@
-use Rattle.std.proofs.Common.{◌≡◌, ◌<◌, ℕ, List, Some, inl, inr, ap, sym, refl, ◌∙◌, subst, length, arith}
+use Rattle.std.proofs.Common.{◌≡◌, ◌<◌, ℕ, List, Some, ap, sym, refl, ◌∙◌, subst, length, arith}
 use Rattle.std.proofs.lemmas.Result.{err_from_is_err_and}
 use Rattle.sfx_item.specs.declared.cell.Cell.{Cell}
 use Rattle.sfx_item.specs.declared.item.Item.{Item}
@@ -8,6 +8,8 @@ use Rattle.sfx_model.specs.Members.{Live, Member, shown}
 use Rattle.sfx_model.specs.Replica.{ActsIn, RepresentsReplica}
 use Rattle.sfx_model.specs.States.{cells_with, edited_contents, next_version, with_state}
 use Rattle.sfx_model.proofs.Acts.{edited_acts}
+use Rattle.sfx_provider.proofs.Exits.{when_always}
+use Rattle.sfx_replica.specs.Refusals.{is_refusal}
 use Rattle.sfx_replica.specs.Edits.{edited, edited_from, risen}
 use Rattle.sfx_replica.specs.Replica.{member_view}
 use Rattle.sfx_replica.proofs.Consistency.{edited_consistent}
@@ -22,7 +24,7 @@ returns-in_err-place-clause-refused g c =
     let (fault, is, same) = err_from_is_err_and c.from_residual.result c.from_residual.ensures.1 in
     let refused = c.in_err-place.ensures.err c.args.self.now c.args.value in
     let here = rw (c.as_slice.ensures.value, items) at refused in
-    rw (is, same) (inr here)
+    rw (is, same) (when_always (is_refusal c.in_err-place.field-0.0) here)
 
 pub returns-in_err-place-clause-made : goal.returns-in_err-place-clause-made
 returns-in_err-place-clause-made g c =
@@ -88,7 +90,7 @@ invariant_of-self g c = rw c.in_err-write.ensures.err c.self.invariant
 pub returns-in_err-write-clause-refused : goal.returns-in_err-write-clause-refused
 returns-in_err-write-clause-refused g c =
     let (fault, is, same) = err_from_is_err_and c.from_residual-in_err-write.result c.from_residual-in_err-write.ensures.1 in
-    rw is (inl same)
+    rw (is, same) tt
 
 pub returns-in_err-write-clause-made : goal.returns-in_err-write-clause-made
 returns-in_err-write-clause-made g c =
