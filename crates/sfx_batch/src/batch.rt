@@ -6,9 +6,9 @@ ghost use Rattle.sfx_model.specs.Items.{items_view};
 
 use sfx_ids::{Cut, ItemId, Memory, ReplicaId};
 use sfx_item::Item;
+use sfx_items::copies;
 use sfx_knowledge::{Forgotten, Knowledge};
 use sfx_model::Mode;
-use sfx_provider::copies;
 use std::alloc::Global;
 use std::marker::Model;
 

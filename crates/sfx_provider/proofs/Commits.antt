@@ -19,8 +19,7 @@ use Rattle.sfx_model.specs.Putting.{put_all}
 use Rattle.sfx_provider.specs.Commit.{CommitData, committed}
 use Rattle.sfx_provider.specs.Exact.{Commits}
 use Rattle.sfx_provider.specs.Fits.{Fits, IsKnownItem}
-use Rattle.sfx_provider.proofs.Puts.{puts_found, puts_others, puts_rising}
-use Rattle.sfx_provider.proofs.Drops.{drops_gone, drops_others, drops_rising}
+use Rattle.sfx_items.proofs.ItemListLemmas.{drops_gone, drops_others, drops_rising, puts_found, puts_others, puts_rising}
 
 -- The knowledge that is stored is in its form, and its ticks are those of the commit, but for the replica's
 -- own.

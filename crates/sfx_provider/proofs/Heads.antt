@@ -20,7 +20,7 @@ use Rattle.sfx_model.specs.Putting.{drop_all, drop_item, put_all, put_item}
 use Rattle.sfx_provider.specs.Commit.{commit_of, committed}
 use Rattle.sfx_provider.specs.Fits.{Fits, IsKnownItem}
 use Rattle.sfx_provider.specs.Head.{head_of}
-use Rattle.sfx_provider.proofs.Drops.{drops_gone, drops_others}
+use Rattle.sfx_items.proofs.ItemListLemmas.{drops_gone, drops_others}
 
 -- The ticks of the head's knowledge: the clock is laid over.
 pub head_ticks : (units : ℕ) (m : Member) → IsConsistent units m → HasTicks units (head_of units m).knowledge (laid_over m.id m.clock (tick_at m.knowledge))

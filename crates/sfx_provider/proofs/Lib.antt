@@ -1,5 +1,3 @@
-pub mod Puts
-pub mod Drops
 pub mod Commits
 pub mod Walks
 pub mod Courses

@@ -2,6 +2,7 @@ ghost use Rattle.std.specs.Prelude.{◌≡◌, IfOk};
 
 use sfx_ids::{ItemId, Memory};
 use sfx_item::Item;
+use sfx_items::copies;
 use sfx_knowledge::{Forgotten, Knowledge};
 use std::alloc::Global;
 use std::marker::Model;
@@ -43,18 +44,4 @@ impl<const U: usize> Commit<U> {
             drops: Vec::from_slice(alloc, self.drops.as_slice())?,
         })
     }
-}
-
-/// Equal items of their own memory, in the same order.
-///
-/// # Errors
-/// `Memory`.
-pub fn copies<const U: usize>(alloc: Global, items: &[Item<U>]) -> Result<Vec<Item<U>>, Memory>
-    ensures { IfOk result (λ copies. copies.items ≡ items.now) }
-{
-    let mut copies = Vec::with_capacity(alloc, items.len())?;
-    for item in items {
-        copies.push(item.copy(alloc)?)?;
-    }
-    Ok(copies)
 }

@@ -15,7 +15,7 @@ use Rattle.sfx_provider.specs.Course.{AllFit}
 use Rattle.sfx_provider.specs.Fits.{Fits, IsKnownItem}
 use Rattle.sfx_provider.specs.Head.{head_of}
 use Rattle.sfx_provider.proofs.Heads.{drop_fits, head_ticks, put_fits, unchanged_fits, unchanged_same}
-use Rattle.sfx_provider.proofs.Puts.{puts_found, puts_others}
+use Rattle.sfx_items.proofs.ItemListLemmas.{puts_found, puts_others}
 
 abbrev pub tombstone : ItemId → MemberItem
 tombstone i = record { id = i; state = Dead (creation_of i) }
