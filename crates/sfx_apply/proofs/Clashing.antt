@@ -16,9 +16,8 @@ use Rattle.sfx_model.specs.NewName.{is_free}
 use Rattle.sfx_model.specs.Sets.{Has}
 use Rattle.sfx_model.proofs.Rising.{before_differs, other_item, state_behind, state_below, state_here}
 use Rattle.sfx_model.proofs.Steps.{same_item_is, same_item_self}
-use Rattle.sfx_provider.proofs.Puts.{ids_differ, puts_rising}
 use Rattle.sfx_apply.proofs.EachUnit.{or_first, or_second}
-use Rattle.sfx_apply.proofs.Items.{look_up, look_up_one}
+use Rattle.sfx_items.proofs.ItemListLemmas.{ids_differ, look_up, look_up_one, puts_rising}
 use Rattle.sfx_apply.proofs.Plans.{IsFree}
 
 abbrev item_in : ItemId → ItemState → MemberItem

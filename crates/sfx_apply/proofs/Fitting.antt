@@ -35,7 +35,8 @@ use Rattle.sfx_provider.specs.Head.{HeadData, head_of}
 use Rattle.sfx_apply.specs.Work.{KnowsNoMore, Waits, cleared, put_taken, taken_state, with_marks, with_range}
 use Rattle.sfx_apply.proofs.Clashing.{put_apart}
 use Rattle.sfx_apply.proofs.Drafts.{Brings}
-use Rattle.sfx_apply.proofs.Items.{look_up_one, put_on, put_rises}
+use Rattle.sfx_items.proofs.ItemListLemmas.{look_up_one, put_on}
+use Rattle.sfx_model.proofs.Putting.{put_rising}
 use Rattle.sfx_apply.proofs.LeftOut.{left_is}
 use Rattle.sfx_apply.proofs.Plans.{IsFree, SkipsAll}
 
@@ -80,7 +81,6 @@ more_known units c k m waits form more own = record {
     forgotten = waits.fits.forgotten;
     most = waits.fits.most;
     own = own;
-    forgets = waits.fits.forgets;
     made = waits.fits.made;
     puts = waits.fits.puts;
     items = λ i state is. let known = waits.fits.items i state is in record {
@@ -125,9 +125,8 @@ one_more units x c m good waits known free = record {
     forgotten = waits.fits.forgotten;
     most = waits.fits.most;
     own = waits.fits.own;
-    forgets = waits.fits.forgets;
     made = waits.fits.made;
-    puts = put_rises x c.puts waits.fits.puts;
+    puts = put_rising x c.puts waits.fits.puts;
     items = λ i state is. by_id i state (same_item x.id i) refl (sym (look_up_one x c.puts i) ∙ is);
     drops = waits.fits.drops;
     present = waits.fits.present;
@@ -297,7 +296,6 @@ made_waits units c m good waits =
         forgotten = λ place r is. omega arith;
         most = waits.fits.most;
         own = waits.fits.own;
-        forgets = waits.fits.forgets;
         made = waits.fits.made;
         puts = tt;
         items = λ i state is. absurd (cc);

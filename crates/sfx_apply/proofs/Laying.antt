@@ -27,10 +27,9 @@ use Rattle.sfx_model.specs.States.{next_version}
 use Rattle.sfx_model.proofs.Learned.{laid_other}
 use Rattle.sfx_model.proofs.Storing.{learned_form, learned_has, stored_is}
 use Rattle.sfx_provider.specs.Commit.{CommitData, committed}
-use Rattle.sfx_provider.proofs.Puts.{puts_rising}
 use Rattle.sfx_apply.specs.Turns.{WorkData, destination, entered, plan_at, with_range_of}
 use Rattle.sfx_apply.specs.Work.{Waits, put_taken, taken_state, with_marks, with_range}
-use Rattle.sfx_apply.proofs.Items.{put_on, same_state}
+use Rattle.sfx_items.proofs.ItemListLemmas.{put_on, puts_rising, same_state}
 use Rattle.sfx_apply.proofs.Plans.{SkipsAll}
 
 abbrev made : ℕ → ℕ → Known → Forgets → List MemberItem → Member

@@ -10,7 +10,6 @@ pub mod Groups
 pub mod Skipping
 pub mod Standing
 pub mod Exits
-pub mod Placing
 pub mod TakenCells
 pub mod Deciding
 pub mod LearnedForms

@@ -1,5 +1,5 @@
 -- How far the applying of a batch has come, and what each of its tasks adds to it.
-use Rattle.std.specs.Prelude.{◌≡◌, ℕ, zero, suc, ◌<◌, ◌≤◌, ◌||◌, if◌then◌else◌, List, [], ◌∷◌, Option, Some, None}
+use Rattle.std.specs.Prelude.{◌≡◌, ℕ, ◌<◌, ◌≤◌, ◌||◌, if◌then◌else◌, List, [], ◌∷◌, Option, Some, None}
 use Rattle.std.specs.List.{list_any}
 use Rattle.sfx_ids.specs.declared.cut.Cut.{Cut}
 use Rattle.sfx_ids.specs.declared.cut.Cut.TheVariants.{At, After}
@@ -16,7 +16,6 @@ use Rattle.sfx_model.specs.Entry.{Entry, is_taken, kind_of_marks, left_from, no_
 use Rattle.sfx_model.specs.Knowing.{learned_known}
 use Rattle.sfx_model.specs.Members.{ItemState, Live, Dead, MemberItem, Member}
 use Rattle.sfx_model.specs.Putting.{put_item}
-use Rattle.sfx_model.specs.States.{is_id_below}
 use Rattle.sfx_model.specs.Units.{each_unit, at_unit}
 use Rattle.sfx_provider.specs.Commit.{CommitData}
 use Rattle.sfx_provider.specs.Fits.{Fits}
@@ -78,11 +77,6 @@ pub record Waits (units : ℕ) (c : CommitData) (m : Member) : Type 0 where
 -- The batch knows no versions of the replica but those that it made.
 pub record KnowsNoMore (units : ℕ) (m : Member) (b : Batch) : Type 0 where
   pub known : (place : Cut) (u : ℕ) → IsPlace place → u < units → tick_at b.made_with place u m.id ≤ m.clock
-
--- How many items stand before the place of one with this id: those at the front with a lower id.
-abbrev pub place_for : ItemId → List MemberItem → ℕ
-place_for i [] = zero
-place_for i (x ∷ xs) = if is_id_below x.id i then suc (place_for i xs) else zero
 
 -- The new list has these units of items, and those of the old one.
 abbrev pub AddsSkips : List (ItemId × ℕ) → List (ItemId × ℕ) → List (ItemId × ℕ) → Type 0

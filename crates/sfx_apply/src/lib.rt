@@ -21,7 +21,6 @@ mod naming;
 mod ordering;
 mod other;
 mod planning;
-mod puts;
 mod reading;
 mod stepping;
 mod taking;

@@ -6,16 +6,16 @@ ghost use Rattle.sfx_apply.specs.Work.{Waits};
 ghost use Rattle.sfx_item.specs.Name.{IsName};
 ghost use Rattle.sfx_model.specs.Clashes.{drafted_name};
 ghost use Rattle.sfx_model.specs.Items.{item_view, items_view, state_view};
-ghost use Rattle.sfx_model.specs.Members.{state_of};
+ghost use Rattle.sfx_model.specs.Members.{AreRising, state_of};
 ghost use Rattle.sfx_model.specs.Readings.{is_clashing, is_in_the_way};
 ghost use Rattle.sfx_model.specs.NewName.{is_free};
 ghost use Rattle.sfx_provider.specs.Fault.{HasCause, blames_storage};
 ghost use Rattle.sfx_provider.specs.Leaves.{Rests};
 
-use crate::puts::put_of;
 use crate::work::Work;
 use sfx_ids::{ItemId, Memory};
 use sfx_item::{Item, Name, NameFault, State, clashes};
+use sfx_items::find;
 use sfx_provider::{Provider, ProviderFault};
 use sfx_settle::Draft;
 use std::alloc::Global;
@@ -96,10 +96,11 @@ fn is_clashing<const U: usize>(state: &State<U>, name: &Name) -> bool
 
 /// Whether each of the ids is that of one of the items.
 fn are_put<const U: usize>(ids: &[ItemId], items: &[Item<U>]) -> bool
+    requires rising { AreRising (items_view items.now) }
     ensures { result ≡ list_all (λ id. is_some (state_of (items_view items.now) id)) ids.now }
 {
     for id in ids {
-        if put_of(items, id).is_none() {
+        if find(items, id).is_none() {
             return false;
         }
     }

@@ -8,10 +8,10 @@ ghost use Rattle.sfx_model.specs.Members.{state_of};
 ghost use Rattle.sfx_provider.specs.Fault.{HasCause, blames_storage};
 ghost use Rattle.sfx_provider.specs.Leaves.{Rests};
 
-use crate::puts::put_of;
 use crate::work::Work;
 use sfx_ids::ItemId;
 use sfx_item::Item;
+use sfx_items::find;
 use sfx_provider::{Provider, ProviderFault};
 use std::alloc::Global;
 
@@ -28,7 +28,7 @@ pub(crate) fn item_now<const U: usize, P: Provider<U>>(
     ensures rests { Rests P.state P.kept P.settled P.came provider.old provider.new }
     ensures cause { HasCause blames_storage (P.faults provider.old) (P.faults provider.new) result }
 {
-    match put_of(work.puts(), id) {
+    match find(work.puts(), id) {
         Some(put) => Ok(Some(put.copy(alloc)?)),
         None => provider.item(alloc, id),
     }

@@ -6,17 +6,18 @@ ghost use Rattle.sfx_ids.specs.declared.cut.Cut.TheVariants.{After, At};
 ghost use Rattle.sfx_knowledge.specs.Knowledge.{IsKnowledge};
 ghost use Rattle.sfx_model.specs.Entry.{left_from};
 ghost use Rattle.sfx_model.specs.Items.{item_view, items_view, state_view};
+ghost use Rattle.sfx_model.specs.Members.{AreRising};
 ghost use Rattle.sfx_model.specs.Knowing.{learned_known};
 ghost use Rattle.sfx_model.specs.Session.{is_spent, lefts, reduced};
 
 use crate::Entry;
 use crate::learning::{learned_item, learned_range};
 use crate::marking::{kind_of, takes};
-use crate::puts::put;
 use crate::taking::taken_state;
 use sfx_batch::Batch;
 use sfx_ids::{ItemId, Memory};
 use sfx_item::Item;
+use sfx_items::put;
 use sfx_knowledge::Knowledge;
 use sfx_provider::Commit;
 use sfx_settle::Marks;
@@ -75,6 +76,7 @@ impl<const U: usize> Work<U> {
     ) -> Result<(), Memory>
         requires some { 1 ≤ U }
         requires form { IsKnowledge U self.old.pending.knowledge }
+        requires rising { AreRising self.old.pending.puts }
         ensures pending { let here = option_map (λ x. state_view x.now.state) local.entry in
             let c = self.old.pending in
             OnOk result (self.new.pending ≡ with_marks U batch.now (item_view change.now) marks.entry here c) }
@@ -120,6 +122,7 @@ impl<const U: usize> Work<U> {
         marks: &Marks<U>,
     ) -> Result<(), Memory>
         requires some { 1 ≤ U }
+        requires rising { AreRising self.old.pending.puts }
         ensures pending { let c = self.old.pending in
             let here = option_map (λ x. state_view x.now.state) local.entry in
             let puts = put_taken U marks.now (item_view change.now) here c.puts in

@@ -13,7 +13,7 @@ returns-in_ok-copy-in-Some-clause-value g c =
     let pending = c.args.work.now.pending in
     ap (λ (x : Item g.row.U). Some (state_view x.state)) c.in_ok-copy-in-Some.ensures
     ∙ there_waits pending.drops pending.puts (g.P.Provider.state c.args.provider.now).items (items_view c.puts.result.now) c.args.id.now
-    (state_view c.in-Some.put.now.state) c.requires.waits.keeps c.requires.waits.fits.puts c.puts.ensures c.in-Some.ensures
+    (state_view c.in-Some.put.now.state) c.requires.waits.keeps c.requires.waits.fits.puts c.puts.ensures c.in-Some.ensures.state
 
 pub returns-in-None-clause-value : goal.returns-in-None-clause-value
 returns-in-None-clause-value g c =
@@ -21,7 +21,7 @@ returns-in-None-clause-value g c =
     let items = (g.P.Provider.state c.args.provider.now).items in
     let id = c.args.id.now in
     let there = none_waits_there pending.drops pending.puts items (items_view c.puts.result.now) id
-    c.requires.waits.keeps c.requires.waits.fits.puts c.puts.ensures c.in-None.ensures in
+    c.requires.waits.keeps c.requires.waits.fits.puts c.puts.ensures c.in-None.ensures.state in
     IfOk-weaker c.item.result
     (λ (item : Option (Item g.row.U)). option_map (λ x. state_view x.state) item ≡ state_of items id)
     (λ (item : Option (Item g.row.U)). option_map (λ x. state_view x.state) item ≡ state_of (drop_all pending.drops (put_all pending.puts items)) id)
