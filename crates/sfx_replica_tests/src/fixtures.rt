@@ -31,11 +31,15 @@ pub fn name(rt: &impl Abort, alloc: Global, text: &str) -> Name {
     Name::read(alloc, text.as_bytes()).expect(rt, "a name")
 }
 
-fn tick(rt: &impl Abort, count: u64) -> Tick {
+fn tick(rt: &impl Abort, count: u64) -> Tick
+    ensures { result ≡ count }
+{
     Tick::new(count).expect(rt, "a tick")
 }
 
-pub fn item_id(rt: &impl Abort, count: u64, replica: u128) -> ItemId {
+pub fn item_id(rt: &impl Abort, count: u64, replica: u128) -> ItemId
+    ensures { result.tick ≡ count }
+{
     ItemId {
         tick: tick(rt, count),
         replica: ReplicaId::new(replica),

@@ -1,8 +1,11 @@
-//! Tests of settling conflicts, and of replicas: their edits, what they tell, and the providers of them.
+//! Tests of settling conflicts, of lists of items in order, and of replicas: their edits, what they tell, and
+//! the providers of them.
 #![tactic(auto)]
 
 #[cfg(test)]
 mod fixtures;
+#[cfg(test)]
+mod items;
 #[cfg(test)]
 mod provider;
 #[cfg(test)]
