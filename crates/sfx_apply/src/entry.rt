@@ -27,7 +27,14 @@ impl<const U: usize> Model for Entry<U> {
 
     ghost Value = { Entry };
 
-    ghost view = { λ e. record { item = e.item; kind = e.kind; marks = e.marks; tick = e.tick; name = e.name; others = e.others.items } };
+    ghost view = { λ e. record {
+      item = e.item;
+      kind = e.kind;
+      marks = e.marks;
+      tick = e.tick;
+      name = e.name;
+      others = e.others.items;
+    } };
 }
 
 impl<const U: usize> Entry<U> {

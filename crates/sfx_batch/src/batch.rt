@@ -62,7 +62,8 @@ impl<const U: usize> Batch<U> {
     /// # Errors
     /// `Memory`.
     pub fn learned(&self, alloc: Global) -> Result<Knowledge<U>, Memory>
-        ensures ticks { IfOk result (λ k. HasTicks U k (projected self.now.from self.now.to (tick_at self.now.made_with))) }
+        ensures ticks { IfOk result (λ k. HasTicks U k
+            (projected self.now.from self.now.to (tick_at self.now.made_with))) }
         ensures form { IfOk result (IsKnowledge U) }
     {
         self.made_with.project_range(alloc, &self.from, &self.to)

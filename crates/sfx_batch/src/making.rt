@@ -89,7 +89,8 @@ fn due_changes<const U: usize, P: Provider<U>>(
     from: &Cut,
     size: usize,
 ) -> Result<(Vec<Item<U>>, Cut), ProviderFault>
-    ensures changes { IfOk result (λ r. items_view r.0.items ≡ due U size known.now from.now (P.state source.old).items) }
+    ensures changes { IfOk result (λ r. items_view r.0.items ≡
+        due U size known.now from.now (P.state source.old).items) }
     ensures end { IfOk result (λ r. r.1 ≡ due_end U size known.now from.now (P.state source.old).items) }
     ensures rests { Rests P.state P.kept P.settled P.came source.old source.new }
     ensures cause { HasCause blames_storage (P.faults source.old) (P.faults source.new) result }

@@ -1,8 +1,11 @@
-pub mod Members
-pub mod History
+pub mod Entries
 pub mod Editing
-pub mod Comparing
+pub mod Compared
 pub mod Joining
 pub mod Sessions
 pub mod Orderly
-pub mod NotAhead
+pub mod Communities
+pub mod LinesHappen
+pub mod History
+pub mod Commits
+pub mod LinesCommit

@@ -1,13 +1,12 @@
 -- The lines of a script keep the lists of all members in order.
+use Rattle.std.specs.Option.{option_or}
 use Rattle.std.proofs.Common.{◌≡◌, ◌≢◌, ◌⊎◌, ℕ, ◌+◌, ◌<◌, ◌≤◌, ◌^◌, Bool, true, false, if◌then◌else◌, nat_eq, Option, Some, None, List, [], ◌∷◌, ◌++◌, length, inl, inr, refl, sym, ap, ◌∙◌, subst, slice_get, arith}
 use Rattle.std.specs.Str.{bytes_eq}
-use Rattle.sfx_ids.specs.declared.cut.Cut.{Cut}
 use Rattle.sfx_ids.specs.declared.cut.Cut.TheVariants.{Start}
 use Rattle.sfx_ids.specs.declared.item_id.ItemId.{ItemId}
 use Rattle.sfx_ids.specs.Cut.{cut_le}
 use Rattle.sfx_ids.specs.Tick.{max_tick}
 use Rattle.sfx_item.specs.declared.cell.Cell.{Cell}
-use Rattle.sfx_item.specs.Name.{IsName}
 use Rattle.sfx_vector.specs.Clocks.{AreClocks}
 use Rattle.sfx_knowledge.specs.Forgotten.{AreForgets, nothing_forgotten}
 use Rattle.sfx_knowledge.proofs.Known.{IsKnowledge-nothing}
@@ -22,7 +21,7 @@ use Rattle.sfx_model.proofs.Acts.{next_unused}
 use Rattle.sfx_model.proofs.Communities.{member_site}
 use Rattle.sfx_model.proofs.Placing.{state_rising, with_rising}
 use Rattle.sfx_replica.specs.Edits.{created, new_member, risen}
-use Rattle.sfx_replica.specs.Refusals.{create_refusal, first_name_refusal, full_clock, name_refusal, or_next}
+use Rattle.sfx_replica.specs.Refusals.{create_refusal, first_name_refusal, full_clock, name_refusal}
 use Rattle.sfx_replica.proofs.Consistency.{MayWrite, both_none, can_rise, created_name, free_name, set_name, state_apart, with_apart}
 use Rattle.sfx_community.specs.History.{AreOrderly}
 
@@ -107,7 +106,7 @@ created_orderly w c d m n values ok rep changes old whole none =
       no_first (v ∷ vs) e f = let bad : Some v ≡ None = f in cc
 
       by_first : state_of m.items (next_item m) ≡ None → (o : Option (List ℕ)) → slice_get values 0 ≡ o
-          → or_next (first_name_refusal m o) (full_clock m) ≡ None → IsOrderly c.units (created m values)
+          → option_or (first_name_refusal m o) (full_clock m) ≡ None → IsOrderly c.units (created m values)
       by_first new None first free = absurd (no_first values whole first)
       by_first new (Some name) first free =
           let (named, room) = both_none (name_refusal m None name) (full_clock m) free in

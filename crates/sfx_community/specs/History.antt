@@ -11,6 +11,7 @@ use Rattle.sfx_session.specs.declared.session_fault.SessionFault.TheVariants.{Ah
 use Rattle.sfx_reply.specs.declared.reason.Reason.TheVariants.{Session}
 use Rattle.sfx_reply.specs.declared.reply.Reply.{Reply}
 use Rattle.sfx_reply.specs.declared.reply.Reply.TheVariants.{Done, Created, Changed, Known, Compared, Shown, Synced, Refused}
+use Rattle.sfx_community.specs.State.{State, community_of}
 use Rattle.sfx_community.specs.Turn.{Turns}
 
 -- The lists of each member of the state are in order, as those of the program's replicas are at any time.
@@ -43,9 +44,9 @@ AreNotAhead replies = (reply : Reply) → Has reply replies → IsNotAhead reply
 -- What a script did from this state happened in the world. Its deeds were legal, one after another; the
 -- world after them is well-formed, and the state afterwards represents it. The three facts hold before
 -- and afterwards: knowledge is exact, equal knowledge means equal items, and deletions are respected.
-pub record HasHappened (w : World) (c : Community) (t : Turns) : Type 0 where
+pub record HasHappened (w : World) (s : State) (t : Turns) : Type 0 where
   pub legal : AreLegalDeeds w t.deeds
   pub well_formed : WellFormed (after_deeds w t.deeds)
-  pub represents : RepresentsWorld (after_deeds w t.deeds) t.community
-  pub facts_before : FactsHold w c
-  pub facts_afterwards : FactsHold (after_deeds w t.deeds) t.community
+  pub represents : RepresentsWorld (after_deeds w t.deeds) (community_of t.state)
+  pub facts_before : FactsHold w (community_of s)
+  pub facts_afterwards : FactsHold (after_deeds w t.deeds) (community_of t.state)

@@ -1,4 +1,5 @@
 pub mod Comparing
-pub mod Members
+pub mod State
+pub mod Engine
 pub mod Turn
 pub mod History

@@ -1,10 +1,18 @@
-//! The replicas that a script works on, and what each of its lines does.
+//! The state that a script works on, and what each of its lines does.
 #![tactic(auto)]
 
-pub use community::{Community, UNITS};
-pub use laws::turns_happen;
+pub use kind::Kind;
+pub use laws::{commits_end_in_state, turns_happen};
 pub use meeting::{Meeting, meet};
+pub use pending::Pending;
+pub use state::State;
 
-mod community;
+mod comparing;
+mod kept;
+mod kind;
 mod laws;
 mod meeting;
+mod members;
+mod pending;
+mod refusing;
+mod state;

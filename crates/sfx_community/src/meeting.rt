@@ -1,15 +1,25 @@
 //! A session between two replicas that are in memory.
 ghost use Rattle.std.specs.Prelude.{◌≡◌, [], IfOk, IsErrOf};
 ghost use Rattle.sfx_script.specs.Limits.{AreWithinLimits};
-ghost use Rattle.sfx_session.specs.Refusals.{Refuses, refusal_of};
+ghost use Rattle.sfx_provider.specs.Answer.{Refuses};
+ghost use Rattle.sfx_session.specs.Fault.{is_refusal};
+ghost use Rattle.sfx_session.specs.Refusals.{refusal_of};
 ghost use Rattle.sfx_session.specs.Report.{report_of};
-ghost use Rattle.sfx_community.specs.Turn.{session_under};
+ghost use Rattle.sfx_community.specs.Turn.{built_rules, session_under};
 
 use sfx_ids::Memory;
 use sfx_replica::{MemoryProvider, Replica};
 use sfx_script::Options;
 use sfx_session::{Report, SessionFault, session};
+use sfx_settle::{ClashRule, Keep, Longer, Rules};
 use std::alloc::Global;
+
+/// The rules of the sessions that are built: each conflict is left alone.
+const BUILT: Rules<Longer> = Rules {
+    keep: Keep::Skip,
+    clash: ClashRule::Skip,
+    merger: Longer,
+};
 
 /// What comes of a session: what it did, and the destination afterwards.
 #[derive(Drop)]
@@ -30,16 +40,19 @@ pub fn meet<const U: usize>(
     options: &Options,
 ) -> Result<Meeting<U>, SessionFault>
     requires limits { AreWithinLimits options.now }
-    ensures refused { Refuses result (refusal_of U source.now destination.now) }
-    ensures report { IfOk result (λ met. met.report ≡ report_of U source.now destination.now options.now.batch options.now.cut) }
-    ensures destination { IfOk result (λ met. met.destination ≡ (session_under U source.now destination.now options.now).course.member) }
+    ensures refused { Refuses is_refusal result (refusal_of U source.now destination.now) }
+    ensures report { let o = options.now in
+        IfOk result (λ met. met.report ≡ report_of U source.now destination.now built_rules o.batch o.cut) }
+    ensures destination { let whole = session_under U source.now destination.now options.now in
+        IfOk result (λ met. met.destination ≡ whole.course.member) }
     ensures source_stays { IsErrOf result SessionFault.Source → ⊥ }
     ensures destination_stays { IsErrOf result SessionFault.Destination → ⊥ }
 {
     let mut from = provider_of(alloc, source)?;
     let mut to = provider_of(alloc, destination)?;
     let size = options.batch as usize;
-    let report = session(alloc, &mut from, &mut to, size, options.group, options.cut)?;
+    let (group, cut) = (options.group, options.cut);
+    let report = session(alloc, &mut from, &mut to, &BUILT, size, group, cut)?;
     Ok(Meeting {
         report,
         destination: to.into_replica(),

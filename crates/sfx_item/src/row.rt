@@ -79,7 +79,8 @@ impl<const U: usize> Row<U> {
     /// `Memory`; nothing has changed then.
     pub fn put(&mut self, alloc: Global, unit: UnitId<U>, cell: Cell) -> Result<bool, Memory>
         ensures done { IfOk result (λ done. IsTrue done ↔ (unit.entry ≡ 0 → IsName cell.value)) }
-        ensures after { IfOk result (λ done. self.new ≡ (if done then slice_set self.old unit.entry cell else self.old)) }
+        ensures after { IfOk result (λ done. self.new ≡
+            (if done then slice_set self.old unit.entry cell else self.old)) }
         ensures err { OnErr result (self.new ≡ self.old) }
     {
         let index = unit.get();

@@ -109,7 +109,8 @@ impl<const U: usize> Knowledge<U> {
         hi: &Cut,
         skipped: &Skips<U>,
     ) -> Result<Knowledge<U>, Memory>
-        ensures ticks { IfOk result (λ k. HasTicks U k (learned lo.now hi.now skipped.now (tick_at self.now) (tick_at from.now))) }
+        ensures ticks { IfOk result (λ k. HasTicks U k
+            (learned lo.now hi.now skipped.now (tick_at self.now) (tick_at from.now))) }
         ensures form { IfOk result (IsKnowledge U) }
     {
         let mut learned = {
@@ -133,7 +134,8 @@ impl<const U: usize> Knowledge<U> {
         id: &ItemId,
         skipped: &Skips<U>,
     ) -> Result<Knowledge<U>, Memory>
-        ensures ticks { IfOk result (λ k. HasTicks U k (learned (At id.now) (After id.now) skipped.now (tick_at self.now) (tick_at from.now))) }
+        ensures ticks { IfOk result (λ k. HasTicks U k
+            (learned (At id.now) (After id.now) skipped.now (tick_at self.now) (tick_at from.now))) }
         ensures form { IfOk result (IsKnowledge U) }
     {
         self.learn(alloc, from, &Cut::At(*id), &Cut::After(*id), skipped)

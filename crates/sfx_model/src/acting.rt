@@ -41,7 +41,8 @@ pub fn entries_act()
         Carried w snapshot item.id (tick_at b.made_with) (Some item.state) →
         HasTicksLeft w b rules m (Change item) →
         EntryActs w snapshot b rules m (Change item) }
-    ensures unlisted { (w : World) (snapshot : Snapshot) (b : Batch) (rules : Rules) (m : Member) (i : ItemId) (local : ItemState) →
+    ensures unlisted { (w : World) (snapshot : Snapshot) (b : Batch) (rules : Rules) (m : Member) (i : ItemId)
+        (local : ItemState) →
         WellFormed w → RepresentsReplica w m.id (shown m) → IsOrderly w.units m → Supplies w snapshot b →
         Carried w snapshot i (tick_at b.made_with) None →
         b.mode ≡ Recover → state_of m.items i ≡ Some local →
@@ -91,7 +92,8 @@ pub fn sessions_act()
         WellFormed w → source.id ≢ m.id →
         RepresentsReplica w source.id (shown source) → RepresentsReplica w m.id (shown m) →
         IsOrderly w.units source → IsOrderly w.units m → 1 ≤ size →
-        DeedsActIn w (session_deeds w.units source m rules size cut) source m.id (session_of w.units source m rules size cut).course.member }
+        DeedsActIn w (session_deeds w.units source m rules size cut) source m.id
+        (session_of w.units source m rules size cut).course.member }
     ensures state { (w : World) (c d : Community) (source m : Member) (rules : Rules) (size : ℕ) (cut : Option ℕ) →
         WellFormed w → RepresentsWorld w c → source.id ≢ m.id → IsMemberOf c source →
         ChangesMember m (session_of w.units source m rules size cut).course.member c d →
@@ -123,8 +125,11 @@ pub fn cut_run()
     ensures before { AllLegal empty_world before_cut }
     ensures legal { AreLegalDeeds world_before cut_deeds }
     ensures entries { map got cut_deeds ≡ Some (item_of 1 10) ∷ Some (item_of 2 10) ∷ [] }
-    ensures records { cut_world.records ≡ created_records 5 (codes "n5") ++ (created_records 4 (codes "n4") ++ (created_records 3 (codes "n3") ++ (created_records 2 (codes "n2") ++ created_records 1 (codes "n1")))) }
-    ensures known { known_names cut_world 11 ≡ Some ((version_of 1 10 ∷ []) ∷ (version_of 2 10 ∷ []) ∷ [] ∷ [] ∷ [] ∷ []) }
+    ensures records { cut_world.records ≡ created_records 5 (codes "n5") ++
+        (created_records 4 (codes "n4") ++
+        (created_records 3 (codes "n3") ++ (created_records 2 (codes "n2") ++ created_records 1 (codes "n1")))) }
+    ensures known { known_names cut_world 11 ≡
+        Some ((version_of 1 10 ∷ []) ∷ (version_of 2 10 ∷ []) ∷ [] ∷ [] ∷ [] ∷ []) }
     ensures present { present_items cut_world 11 ≡ Some (true ∷ true ∷ false ∷ false ∷ false ∷ []) }
     ensures state { RepresentsWorld cut_world cut_community }
     ensures facts { FactsHold cut_world cut_community }

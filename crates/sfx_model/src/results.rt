@@ -23,15 +23,18 @@ ghost use Rattle.sfx_model.specs.Results.{ForgetResult, LearnResult, SameVectors
 /// stored then (`known`, and `form` and `stored` of that very list), and so there is one of forgotten
 /// deletions joined with others (`forgets`, and `forgets_form` and `joined` of that very list).
 pub fn results_follow()
-    ensures ticks { (units own tick : ℕ) (lo hi : Cut) (skipped : List (ItemId × ℕ)) (here there : Ticks) (k n : Known) →
+    ensures ticks { (units own tick : ℕ) (lo hi : Cut) (skipped : List (ItemId × ℕ)) (here there : Ticks)
+        (k n : Known) →
         HasTicks units k (learned lo hi skipped here there) →
         HasTicks units n (laid_over own tick (tick_at k)) →
         HasTicks units n (laid_over own tick (learned lo hi skipped here there)) }
-    ensures laid { (units own clock tick : ℕ) (lo hi : Cut) (skipped : List (ItemId × ℕ)) (here there : Ticks) (k n : Known) →
+    ensures laid { (units own clock tick : ℕ) (lo hi : Cut) (skipped : List (ItemId × ℕ)) (here there : Ticks)
+        (k n : Known) →
         HasTicks units k (learned lo hi skipped (laid_over own clock here) there) →
         HasTicks units n (laid_over own tick (tick_at k)) →
         HasTicks units n (laid_over own tick (learned lo hi skipped here there)) }
-    ensures item { (units : ℕ) (m n : Member) (i : ItemId) (marks : ℕ → UnitMark) (skipped : List (ItemId × ℕ)) (there : Ticks) →
+    ensures item { (units : ℕ) (m n : Member) (i : ItemId) (marks : ℕ → UnitMark) (skipped : List (ItemId × ℕ))
+        (there : Ticks) →
         n.id ≡ m.id → SkipsLeft units i marks skipped →
         HasTicks units n.knowledge (laid_over m.id 0 (learned (At i) (After i) skipped (tick_at m.knowledge) there)) →
         SameVectors units (vector_at n) (laid_over n.id n.clock (joined_at i marks (vector_at m) there)) }
@@ -48,7 +51,8 @@ pub fn results_follow()
         IsKnowledge units (stored_known units own lo hi skipped here there) }
     ensures stored { (units own : ℕ) (lo hi : Cut) (skipped : List (ItemId × ℕ)) (here there : Known) →
         1 ≤ units → own < 2 ^ 128 → IsKnowledge units here → IsKnowledge units there →
-        HasTicks units (stored_known units own lo hi skipped here there) (laid_over own 0 (learned lo hi skipped (tick_at here) (tick_at there))) }
+        HasTicks units (stored_known units own lo hi skipped here there)
+        (laid_over own 0 (learned lo hi skipped (tick_at here) (tick_at there))) }
     ensures known { (units own : ℕ) (lo hi : Cut) (skipped : List (ItemId × ℕ)) (here there known : Known) →
         1 ≤ units → own < 2 ^ 128 → IsKnowledge units here → IsKnowledge units there → IsKnowledge units known →
         HasTicks units known (laid_over own 0 (learned lo hi skipped (tick_at here) (tick_at there))) →

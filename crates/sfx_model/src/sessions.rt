@@ -23,7 +23,8 @@ ghost use Rattle.sfx_model.specs.declared.session_end.SessionEnd.TheVariants.{Cu
 
 /// Moments that follow others add their committed states. Nothing happens when this function is called.
 pub fn moments_join()
-    ensures { (group : ℕ) (xs ys : List Moment) → committed group (xs ++ ys) ≡ committed group xs ++ committed group ys }
+    ensures { (group : ℕ) (xs ys : List Moment) →
+        committed group (xs ++ ys) ≡ committed group xs ++ committed group ys }
 {}
 
 /// Small sessions that meet no conflict. Nothing happens when this function is called.
@@ -39,8 +40,10 @@ pub fn sessions_on_examples()
     ensures learned { after (skipping creator new 100 None) ≡ receiver }
     ensures unsent { ranges_of (skipping creator (editor (codes "y")) 100 None) ≡ (Start, End, 0) ∷ [] }
     ensures edited { entries_of (skipping (editor (codes "y")) creator 100 None) ≡ quiet first Took Stays Taken ∷ [] }
-    ensures changed { items_after (skipping (editor (codes "y")) creator 100 None) ≡ revalued (version_of 1 11) (codes "y") ∷ [] }
-    ensures cut { entries_of (skipping five new 100 (Some 2)) ≡ quiet (item_of 1 10) Took Taken Taken ∷ quiet (item_of 2 10) Took Taken Taken ∷ [] }
+    ensures changed { items_after (skipping (editor (codes "y")) creator 100 None) ≡
+        revalued (version_of 1 11) (codes "y") ∷ [] }
+    ensures cut { entries_of (skipping five new 100 (Some 2)) ≡
+        quiet (item_of 1 10) Took Taken Taken ∷ quiet (item_of 2 10) Took Taken Taken ∷ [] }
     ensures cut_end { (skipping five new 100 (Some 2)).end ≡ CutOff }
     ensures cut_known { known_after (skipping five new 100 (Some 2)) ≡ first_two }
     ensures rest { ranges_of rest_of ≡ (Start, End, 3) ∷ [] }
@@ -56,7 +59,8 @@ pub fn sessions_on_examples()
 pub fn conflicts_on_examples()
     ensures source { entries_of (conflict KeepSource) ≡ entry first Settled Stays Stamped (Some 2) None [] ∷ [] }
     ensures source_item { items_after (conflict KeepSource) ≡ revalued (version_of 2 11) (codes "aa") ∷ [] }
-    ensures destination { entries_of (conflict KeepDestination) ≡ entry first Settled Stays Stamped (Some 2) None [] ∷ [] }
+    ensures destination { entries_of (conflict KeepDestination) ≡
+        entry first Settled Stays Stamped (Some 2) None [] ∷ [] }
     ensures destination_item { items_after (conflict KeepDestination) ≡ revalued (version_of 2 11) (codes "b") ∷ [] }
     ensures merge_item { items_after (conflict Merge) ≡ revalued (version_of 2 11) (codes "aa") ∷ [] }
     ensures skip { entries_of (conflict KeepNone) ≡ quiet first Skipped Stays Left ∷ [] }
@@ -64,23 +68,34 @@ pub fn conflicts_on_examples()
     ensures skip_known { known_after (conflict KeepNone) ≡ unknown_value }
     ensures deleted { entries_of (deletion KeepSource) ≡ entry first Settled Stamped Stamped (Some 2) None [] ∷ [] }
     ensures deleted_item { items_after (deletion KeepSource) ≡ dead_of first (version_of 2 11) ∷ [] }
-    ensures kept_item { items_after (deletion KeepDestination) ≡ live_of first (version_of 2 11) (codes "n1") (version_of 2 11) (codes "b") ∷ [] }
-    ensures merged_item { items_after (deletion Merge) ≡ live_of first (version_of 2 11) (codes "n1") (version_of 2 11) (codes "b") ∷ [] }
+    ensures kept_item { items_after (deletion KeepDestination) ≡
+        live_of first (version_of 2 11) (codes "n1") (version_of 2 11) (codes "b") ∷ [] }
+    ensures merged_item { items_after (deletion Merge) ≡
+        live_of first (version_of 2 11) (codes "n1") (version_of 2 11) (codes "b") ∷ [] }
     ensures left { entries_of (deletion KeepNone) ≡ quiet first Skipped Left Left ∷ [] }
 {}
 
 /// Small sessions in which an item `dir` comes to a destination that has an item `dir/f`, under each rule,
 /// and one in which the first new name is not free. Nothing happens when this function is called.
 pub fn clashes_on_examples()
-    ensures rename_source { entries_of (collision RenameSource) ≡ entry first Renamed Stamped Taken (Some 2) (Some (codes "dir~1")) [] ∷ [] }
-    ensures source { entries_of (collision Source) ≡ entry first Took Taken Taken None None (other (item_of 1 11) 2 None ∷ []) ∷ [] }
-    ensures source_items { items_after (collision Source) ≡ created_of 1 10 (codes "dir") ∷ dead_of (item_of 1 11) (version_of 2 11) ∷ [] }
-    ensures destination { entries_of (collision Destination) ≡ entry first Deleted Stamped Stamped (Some 2) None [] ∷ [] }
-    ensures destination_items { items_after (collision Destination) ≡ dead_of first (version_of 2 11) ∷ created_of 1 11 (codes "dir/f") ∷ [] }
-    ensures rename_destination { entries_of (collision RenameDestination) ≡ entry first Took Taken Taken None None (other (item_of 1 11) 2 (Some (codes "dir~1/f")) ∷ []) ∷ [] }
-    ensures rename_items { items_after (collision RenameDestination) ≡ created_of 1 10 (codes "dir") ∷ live_of (item_of 1 11) (version_of 2 11) (codes "dir~1/f") (version_of 1 11) (codes "x") ∷ [] }
+    ensures rename_source { entries_of (collision RenameSource) ≡
+        entry first Renamed Stamped Taken (Some 2) (Some (codes "dir~1")) [] ∷ [] }
+    ensures source { entries_of (collision Source) ≡
+        entry first Took Taken Taken None None (other (item_of 1 11) 2 None ∷ []) ∷ [] }
+    ensures source_items { items_after (collision Source) ≡
+        created_of 1 10 (codes "dir") ∷ dead_of (item_of 1 11) (version_of 2 11) ∷ [] }
+    ensures destination { entries_of (collision Destination) ≡
+        entry first Deleted Stamped Stamped (Some 2) None [] ∷ [] }
+    ensures destination_items { items_after (collision Destination) ≡
+        dead_of first (version_of 2 11) ∷ created_of 1 11 (codes "dir/f") ∷ [] }
+    ensures rename_destination { entries_of (collision RenameDestination) ≡
+        entry first Took Taken Taken None None (other (item_of 1 11) 2 (Some (codes "dir~1/f")) ∷ []) ∷ [] }
+    ensures rename_items { items_after (collision RenameDestination) ≡
+        created_of 1 10 (codes "dir") ∷ live_of (item_of 1 11) (version_of 2 11) (codes "dir~1/f") (version_of 1 11)
+        (codes "x") ∷ [] }
     ensures skip { entries_of (collision Skip) ≡ quiet first Skipped Left Left ∷ [] }
-    ensures taken_name { entries_of second_collision ≡ entry first Renamed Stamped Taken (Some 3) (Some (codes "dir~2")) [] ∷ [] }
+    ensures taken_name { entries_of second_collision ≡
+        entry first Renamed Stamped Taken (Some 3) (Some (codes "dir~2")) [] ∷ [] }
 {}
 
 /// A session takes at most as many batches as its source has items, and one more: the bound of its
@@ -90,12 +105,16 @@ pub fn clashes_on_examples()
 /// were behind its first place. `enough`: any two bounds that are as great as the number of these items
 /// give the same session.
 pub fn batches_are_bounded()
-    ensures fewer { (units : ℕ) (source : Member) (mode : Mode) (size : ℕ) (known : Known) (from : Cut) (end : ApplyEnd) (budget : Option ℕ) →
+    ensures fewer { (units : ℕ) (source : Member) (mode : Mode) (size : ℕ) (known : Known) (from : Cut)
+        (end : ApplyEnd) (budget : Option ℕ) →
         ending (batch_from units source mode size known from).to end budget ≡ None →
-        length (items_from (batch_from units source mode size known from).to source.items) < length (items_from from source.items) }
-    ensures enough { (n k units : ℕ) (source : Member) (mode : Mode) (rules : Rules) (size : ℕ) (c : Course) (from : Cut) →
+        length (items_from (batch_from units source mode size known from).to source.items) < length
+        (items_from from source.items) }
+    ensures enough { (n k units : ℕ) (source : Member) (mode : Mode) (rules : Rules) (size : ℕ) (c : Course)
+        (from : Cut) →
         length (items_from from source.items) ≤ n → length (items_from from source.items) ≤ k →
-        session_from (n + 1) units source mode rules size c from ≡ session_from (k + 1) units source mode rules size c from }
+        session_from (n + 1) units source mode rules size c from ≡
+        session_from (k + 1) units source mode rules size c from }
 {}
 
 /// What is known and forgotten, as functions that compute it. Nothing happens when this function is called.
@@ -107,5 +126,7 @@ pub fn knowledge_is_decided()
         IsTrue (is_forgotten_within units forgotten known i) ↔ IsForgottenWithinAt units forgotten known i }
     ensures learned { (units : ℕ) (lo hi : Cut) (skipped : List (ItemId × ℕ)) (here there : Known) →
         1 ≤ units → IsKnowledge units here → IsKnowledge units there →
-        IsKnowledge units (learned_known units lo hi skipped here there) × HasTicks units (learned_known units lo hi skipped here there) (learned lo hi skipped (tick_at here) (tick_at there)) }
+        IsKnowledge units (learned_known units lo hi skipped here there)
+        × HasTicks units (learned_known units lo hi skipped here there)
+        (learned lo hi skipped (tick_at here) (tick_at there)) }
 {}

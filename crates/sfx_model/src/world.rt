@@ -20,8 +20,10 @@ pub fn events_keep()
 /// The shapes that the marks of an entry can have are what is asked of any two units, said unit by unit:
 /// neither asks more than the other. Nothing happens when this function is called.
 pub fn marks_agree()
-    ensures shape { (w : World) (s : Site) (snapshot : Snapshot) (i : ItemId) (marks : ℕ → UnitMark) → 1 ≤ w.units → AgreesAcrossUnits w s snapshot i marks → Joint w s snapshot i marks }
-    ensures agreement { (w : World) (s : Site) (snapshot : Snapshot) (i : ItemId) (marks : ℕ → UnitMark) → Joint w s snapshot i marks → AgreesAcrossUnits w s snapshot i marks }
+    ensures shape { (w : World) (s : Site) (snapshot : Snapshot) (i : ItemId) (marks : ℕ → UnitMark) → 1 ≤ w.units →
+        AgreesAcrossUnits w s snapshot i marks → Joint w s snapshot i marks }
+    ensures agreement { (w : World) (s : Site) (snapshot : Snapshot) (i : ItemId) (marks : ℕ → UnitMark) →
+        Joint w s snapshot i marks → AgreesAcrossUnits w s snapshot i marks }
 {}
 
 /// Worlds that are well-formed, and worlds that are not, each for one cause: a version is known without
@@ -32,9 +34,12 @@ pub fn examples()
     ensures edit { WellFormed (example_world edited 2 (example_version 2 ∷ example_version 1 ∷ []) true 0) }
     ensures cleanup { WellFormed (example_world deleted 2 (example_version 2 ∷ example_version 1 ∷ []) false 2) }
     ensures gap { ¬ WellFormed (example_world edited 2 (example_version 2 ∷ []) true 0) }
-    ensures fork { ¬ WellFormed (example_world (edited_again (example_version 1 ∷ [])) 3 (example_version 3 ∷ example_version 2 ∷ example_version 1 ∷ []) true 0) }
+    ensures fork { ¬ WellFormed (example_world (edited_again (example_version 1 ∷ [])) 3
+        (example_version 3 ∷ example_version 2 ∷ example_version 1 ∷ []) true 0) }
     ensures lost { ¬ WellFormed (example_world deleted 2 (example_version 2 ∷ example_version 1 ∷ []) false 0) }
-    ensures twice { ¬ WellFormed (example_world (example_record 1 (Written (98 ∷ [])) [] ∷ example_record 1 (Written (97 ∷ [])) [] ∷ []) 1 (example_version 1 ∷ []) true 0) }
+    ensures twice { ¬ WellFormed (example_world
+        (example_record 1 (Written (98 ∷ [])) [] ∷ example_record 1 (Written (97 ∷ [])) [] ∷ []) 1
+        (example_version 1 ∷ []) true 0) }
 {}
 
 /// A short run from the empty world: its events may happen, they make these records, this state

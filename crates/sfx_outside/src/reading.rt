@@ -24,7 +24,8 @@ pub fn read_to_end<A: Source>(
     ensures fits { IfOk result (λ bytes. vec_len bytes ≤ limit) }
 
     ensures too_long { IsErrOf result ReadFault.TooLong → IfSome (A.left input.old) (λ all. limit < length all) }
-    ensures stopped { IsErrOf result ReadFault.TooLong → TakesExactly (limit + 1) (A.left input.old) (A.left input.new) }
+    ensures stopped { IsErrOf result ReadFault.TooLong →
+        TakesExactly (limit + 1) (A.left input.old) (A.left input.new) }
     ensures taken { TakesAtMost (limit + 1) (A.left input.old) (A.left input.new) }
 
     ensures faults { A.faults input.old ≤ A.faults input.new }
@@ -34,7 +35,8 @@ pub fn read_to_end<A: Source>(
     ensures short { ¬ HasRisen (A.faults input.old) (A.faults input.new) →
         IfSome (A.left input.old) (λ all. length all ≤ limit → IsOk result ⊎ IsErrOf result ReadFault.Memory) }
     ensures long { ¬ HasRisen (A.faults input.old) (A.faults input.new) →
-        IfSome (A.left input.old) (λ all. limit < length all → IsErrOf result ReadFault.TooLong ⊎ IsErrOf result ReadFault.Memory) }
+        IfSome (A.left input.old) (λ all. limit < length all →
+        IsErrOf result ReadFault.TooLong ⊎ IsErrOf result ReadFault.Memory) }
 {
     let mut buffer = [0; PIECE];
     let mut bytes = Vec::new(alloc);

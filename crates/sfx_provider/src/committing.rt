@@ -20,7 +20,8 @@ pub fn commit_all<const U: usize, P: Provider<U>>(
         OnOk result (Arrives P.state P.kept P.settled P.came provider.old provider.new
         (states_after U commits.now first) (committed_all U commits.now first)) }
     ensures breaks_off { let states = states_after U commits.now (P.state provider.old) in
-        OnErr result (BreaksOff P.kept P.came P.broke provider.old provider.new states (P.state provider.old ∷ states)) }
+        OnErr result (BreaksOff P.kept P.came P.broke provider.old provider.new states
+        (P.state provider.old ∷ states)) }
     ensures cause { HasCause blames_storage (P.faults provider.old) (P.faults provider.new) result }
 {
     'commits: for commit in commits {

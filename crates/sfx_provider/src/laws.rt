@@ -21,13 +21,15 @@ pub fn walks_list_items()
 /// What a commit that a consistent state takes makes of it, part by part.
 pub fn commits_are_exact()
     ensures { (units : ℕ) (c : CommitData) (m : Member) →
-        IsConsistent units m → IsKnowledge units c.knowledge → Fits units c m → Commits units c m (committed units c m) }
+        IsConsistent units m → IsKnowledge units c.knowledge → Fits units c m →
+        Commits units c m (committed units c m) }
 {}
 
 /// A commit that a consistent state takes leaves it consistent.
 pub fn commits_keep_consistency()
     ensures { (units : ℕ) (c : CommitData) (m : Member) →
-        IsConsistent units m → IsKnowledge units c.knowledge → Fits units c m → IsConsistent units (committed units c m) }
+        IsConsistent units m → IsKnowledge units c.knowledge → Fits units c m →
+        IsConsistent units (committed units c m) }
 {}
 
 /// The commit of a state's head, as a law of consistent states: the state takes it, and it changes nothing
@@ -35,7 +37,8 @@ pub fn commits_keep_consistency()
 /// and with one present item dropped (`drop`).
 pub fn heads_are_commits()
     ensures fits { (units : ℕ) (m : Member) → IsConsistent units m → Fits units (commit_of (head_of units m)) m }
-    ensures same { (units : ℕ) (m : Member) → IsConsistent units m → committed units (commit_of (head_of units m)) m ≡ m }
+    ensures same { (units : ℕ) (m : Member) → IsConsistent units m →
+        committed units (commit_of (head_of units m)) m ≡ m }
     ensures put { (units : ℕ) (m : Member) (x : MemberItem) → IsConsistent units m →
         IsKnownItem units (head_of units m).knowledge x.id x.state → AreApart (put_item x m.items) →
         Fits units (record (commit_of (head_of units m)) { puts = x ∷ [] }) m }

@@ -68,7 +68,8 @@ pub trait Provider<const U: usize> {
     /// # Errors
     /// `Failed`, only where the count of faults rose, and `Memory`.
     fn item(&mut self, alloc: Global, id: &ItemId) -> Result<Option<Item<U>>, ProviderFault>
-        ensures value { IfOk result (λ item. option_map (λ x. state_view x.state) item ≡ state_of (state self.old).items id.now) }
+        ensures value { IfOk result (λ item. option_map (λ x. state_view x.state) item ≡
+            state_of (state self.old).items id.now) }
         ensures same { IfOk result (λ item. IfSome item (λ x. x.id ≡ id.now)) }
         ensures rests { Rests state kept settled came self.old self.new }
         ensures cause { HasCause blames_storage (faults self.old) (faults self.new) result };
@@ -92,7 +93,8 @@ pub trait Provider<const U: usize> {
         name: &Name,
         except: &ItemId,
     ) -> Result<Vec<ItemId>, ProviderFault>
-        ensures value { IfOk result (λ ids. ids.items ≡ clashing_with name.now (Some except.now) (state self.old).items) }
+        ensures value { IfOk result (λ ids. ids.items ≡
+            clashing_with name.now (Some except.now) (state self.old).items) }
         ensures rests { Rests state kept settled came self.old self.new }
         ensures cause { HasCause blames_storage (faults self.old) (faults self.new) result };
 
@@ -108,7 +110,8 @@ pub trait Provider<const U: usize> {
         from: &Cut,
         limit: usize,
     ) -> Result<Vec<Item<U>>, ProviderFault>
-        ensures value { IfOk result (λ items. items_view items.items ≡ take limit (unseen U to.now from.now (state self.old).items)) }
+        ensures value { IfOk result (λ items. items_view items.items ≡
+            take limit (unseen U to.now from.now (state self.old).items)) }
         ensures rests { Rests state kept settled came self.old self.new }
         ensures cause { HasCause blames_storage (faults self.old) (faults self.new) result };
 

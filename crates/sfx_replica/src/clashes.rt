@@ -15,7 +15,8 @@ pub fn clashing<const U: usize>(
     name: &Name,
     except: Option<&ItemId>,
 ) -> Result<Vec<ItemId>, AllocError>
-    ensures { IfOk result (λ ids. ids.items ≡ clashing_with name.now (option_copied except.entry) (items_view items.now)) }
+    ensures { IfOk result (λ ids. ids.items ≡
+        clashing_with name.now (option_copied except.entry) (items_view items.now)) }
 {
     let mut ids = Vec::new(alloc);
     for item in items {

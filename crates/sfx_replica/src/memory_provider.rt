@@ -111,7 +111,8 @@ impl<const U: usize> Provider<U> for MemoryProvider<U> {
 
     fn item(&mut self, alloc: Global, id: &ItemId) -> Result<Option<Item<U>>, ProviderFault>
         ensures call { Reads self.old self.new result }
-        ensures value { IfOk result (λ item. option_map (λ x. state_view x.state) item ≡ state_of self.old.member.items id.now) }
+        ensures value { IfOk result (λ item. option_map (λ x. state_view x.state) item ≡
+            state_of self.old.member.items id.now) }
         ensures same { IfOk result (λ item. IfSome item (λ x. x.id ≡ id.now)) }
     {
         self.begin()?;
@@ -133,7 +134,8 @@ impl<const U: usize> Provider<U> for MemoryProvider<U> {
         except: &ItemId,
     ) -> Result<Vec<ItemId>, ProviderFault>
         ensures call { Reads self.old self.new result }
-        ensures value { IfOk result (λ ids. ids.items ≡ clashing_with name.now (Some except.now) self.old.member.items) }
+        ensures value { IfOk result (λ ids. ids.items ≡
+            clashing_with name.now (Some except.now) self.old.member.items) }
     {
         self.begin()?;
         Ok(self.replica.clashing(alloc, name, Some(*except))?)
@@ -147,7 +149,8 @@ impl<const U: usize> Provider<U> for MemoryProvider<U> {
         limit: usize,
     ) -> Result<Vec<Item<U>>, ProviderFault>
         ensures call { Reads self.old self.new result }
-        ensures value { IfOk result (λ items. items_view items.items ≡ take limit (unseen U to.now from.now self.old.member.items)) }
+        ensures value { IfOk result (λ items. items_view items.items ≡
+            take limit (unseen U to.now from.now self.old.member.items)) }
     {
         self.begin()?;
         Ok(unseen_copies(alloc, self.replica.items(), to, from, limit)?)
@@ -164,7 +167,8 @@ impl<const U: usize> Provider<U> for MemoryProvider<U> {
         ensures state_err { let next = committed U commit.now self.old.member in
             OnErr result ((self.new.member ≡ self.old.member) ⊎ (self.new.member ≡ next)) }
         ensures breaks_off { let next = committed U commit.now self.old.member in
-            OnErr result (BreaksOff kept_by CameBy BrokeAt self.old self.new (next ∷ []) (self.old.member ∷ next ∷ [])) }
+            OnErr result (BreaksOff kept_by CameBy BrokeAt self.old self.new (next ∷ [])
+            (self.old.member ∷ next ∷ [])) }
     {
         self.begin()?;
         Ok(self.replica.install(commit)?)

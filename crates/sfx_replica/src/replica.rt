@@ -208,7 +208,8 @@ impl<const U: usize> Replica<U> {
         from: &Cut,
         limit: usize,
     ) -> Result<Vec<ItemId>, Memory>
-        ensures { IfOk result (λ ids. ids.items ≡ map (λ x. x.id) (take limit (unseen U to.now from.now self.now.items))) }
+        ensures { IfOk result (λ ids. ids.items ≡
+            map (λ x. x.id) (take limit (unseen U to.now from.now self.now.items))) }
     {
         Ok(unseen(alloc, self.items.as_slice(), to, from, limit)?)
     }
@@ -231,7 +232,10 @@ impl<const U: usize> Replica<U> {
         ensures made { IfOk result (λ id. id ≡ next_item self.old) }
         ensures after { OnOk result (self.new ≡ created self.old values.items) }
         ensures err { OnErr result (self.new ≡ self.old) }
-        ensures acts { OnOk result ((w : World) → WellFormed w → w.units ≡ U → RepresentsReplica w self.old.id (shown self.old) → ActsIn w (Make self.old.id (next_item self.old) (next_version self.old) (created_contents values.items)) self.old.id self.new) }
+        ensures acts { OnOk result ((w : World) → WellFormed w → w.units ≡ U →
+            RepresentsReplica w self.old.id (shown self.old) →
+            ActsIn w (Make self.old.id (next_item self.old) (next_version self.old)
+            (created_contents values.items)) self.old.id self.new) }
     {
         let item = self.new_item(values)?;
         let id = item.id;
@@ -252,7 +256,9 @@ impl<const U: usize> Replica<U> {
         ensures made { IfOk result (λ version. version ≡ next_version self.old) }
         ensures after { OnOk result (self.new ≡ edited self.old id.now k value) }
         ensures err { OnErr result (self.new ≡ self.old) }
-        ensures acts { OnOk result ((w : World) → WellFormed w → w.units ≡ U → RepresentsReplica w self.old.id (shown self.old) → ActsIn w (Make self.old.id id.now (next_version self.old) (edited_contents k value)) self.old.id self.new) }
+        ensures acts { OnOk result ((w : World) → WellFormed w → w.units ≡ U →
+            RepresentsReplica w self.old.id (shown self.old) →
+            ActsIn w (Make self.old.id id.now (next_version self.old) (edited_contents k value)) self.old.id self.new) }
     {
         let (place, unit) = target(self.items.as_slice(), id, k)?;
         let cell = self.next_cell(id, k, value)?;
@@ -305,7 +311,8 @@ impl<const U: usize> Replica<U> {
 
     /// The cell that is written next to the unit of the item.
     fn next_cell(&self, id: &ItemId, k: usize, value: Value) -> Result<Cell, EditFault>
-        ensures refused { Refuses is_refusal result (option_or (if nat_eq k 0 then name_refusal self.now (Some id.now) value else None) (full_clock self.now)) }
+        ensures refused { Refuses is_refusal result
+            (option_or (if nat_eq k 0 then name_refusal self.now (Some id.now) value else None) (full_clock self.now)) }
         ensures value { IfOk result (λ cell. cell ≡ (record { version = next_version self.now; value = value })) }
     {
         self.check_value(id, k, &value)?;
@@ -318,7 +325,8 @@ impl<const U: usize> Replica<U> {
     /// Refuses a value that may not be written to the unit of the item: for unit 0 one that may not
     /// name it.
     fn check_value(&self, id: &ItemId, k: usize, value: &Value) -> Result<(), EditFault>
-        ensures { Refuses is_refusal result (if nat_eq k 0 then name_refusal self.now (Some id.now) value.now else None) }
+        ensures { Refuses is_refusal result
+            (if nat_eq k 0 then name_refusal self.now (Some id.now) value.now else None) }
     {
         if k != 0 {
             return Ok(());

@@ -18,7 +18,8 @@ pub fn unseen<const U: usize>(
     from: &Cut,
     limit: usize,
 ) -> Result<Vec<ItemId>, AllocError>
-    ensures { IfOk result (λ ids. ids.items ≡ map (λ x. x.id) (take limit (unseen U to.now from.now (items_view items.now)))) }
+    ensures { IfOk result (λ ids. ids.items ≡
+        map (λ x. x.id) (take limit (unseen U to.now from.now (items_view items.now)))) }
 {
     let mut ids = Vec::new(alloc);
     for item in items {
@@ -41,7 +42,8 @@ pub fn unseen_copies<const U: usize>(
     from: &Cut,
     limit: usize,
 ) -> Result<Vec<Item<U>>, Memory>
-    ensures { IfOk result (λ copies. items_view copies.items ≡ take limit (unseen U to.now from.now (items_view items.now))) }
+    ensures { IfOk result (λ copies. items_view copies.items ≡
+        take limit (unseen U to.now from.now (items_view items.now))) }
 {
     let mut copies = Vec::new(alloc);
     for item in items {

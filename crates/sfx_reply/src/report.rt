@@ -125,7 +125,8 @@ fn write_batch<const U: usize>(out: &mut Vec<u8>, batch: &Batch<U>) -> Result<()
 
 /// Appends the mode of a batch, and the cuts between which it ranges.
 fn write_ranged(out: &mut Vec<u8>, mode: Mode, from: &Cut, to: &Cut) -> Result<(), Memory>
-    ensures { OnOk result (out.new.items ≡ out.old.items ++ codes "batch " ++ mode_text mode ++ range_text from.now to.now) }
+    ensures { OnOk result (out.new.items ≡
+        out.old.items ++ codes "batch " ++ mode_text mode ++ range_text from.now to.now) }
 {
     append(out, b"batch ")?;
     write_mode(out, mode)?;
@@ -280,7 +281,8 @@ fn write_last(
 
 /// Appends how many batches and entries a session had.
 fn write_counts(out: &mut Vec<u8>, batches: usize, entries: u128) -> Result<(), Memory>
-    ensures { OnOk result (out.new.items ≡ out.old.items ++ codes " batches=" ++ decimal batches ++ codes " entries=" ++ decimal entries) }
+    ensures { OnOk result (out.new.items ≡
+        out.old.items ++ codes " batches=" ++ decimal batches ++ codes " entries=" ++ decimal entries) }
 {
     append(out, b" batches=")?;
     write_number(out, batches as u64)?;

@@ -50,7 +50,8 @@ fn write_header(out: &mut Vec<u8>, name: &str, id: &ReplicaId, clock: u64) -> Re
 }
 
 fn write_forgotten<const U: usize>(out: &mut Vec<u8>, replica: &Replica<U>) -> Result<(), Memory>
-    ensures { OnOk result (out.new.items ≡ out.old.items ++ codes "forgotten " ++ vector_text (fvec replica.now.forgotten Start) ++ codes "\n") }
+    ensures { OnOk result (out.new.items ≡
+        out.old.items ++ codes "forgotten " ++ vector_text (fvec replica.now.forgotten Start) ++ codes "\n") }
 {
     append(out, b"forgotten ")?;
     write_vector(out, replica.forgotten().vector())?;
@@ -103,7 +104,8 @@ fn write_segment<const U: usize>(
 /// Appends the vector of unit 0, and those of the units that differ from it.
 fn write_row<const U: usize>(out: &mut Vec<u8>, row: &UnitRow<U>) -> Result<(), Memory>
     requires { 1 ≤ U }
-    ensures { OnOk result (out.new.items ≡ out.old.items ++ vector_text row.now.base ++ flat_map other_text row.now.others) }
+    ensures { OnOk result (out.new.items ≡
+        out.old.items ++ vector_text row.now.base ++ flat_map other_text row.now.others) }
 {
     let first = row.get(UnitId::new(0).unwrap());
     write_vector(out, first)?;

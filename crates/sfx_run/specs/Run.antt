@@ -6,7 +6,8 @@ use Rattle.std.specs.Str.{bytes_eq}
 use Rattle.sfx_reply.specs.declared.reply.Reply.{Reply}
 use Rattle.sfx_script.specs.Script.{lines_of}
 use Rattle.sfx_reply.specs.Reply.{is_refusal, reply_text}
-use Rattle.sfx_community.specs.Turn.{Turns, empty_community, turns}
+use Rattle.sfx_community.specs.State.{State}
+use Rattle.sfx_community.specs.Turn.{Turns, empty_state, turns}
 
 -- The words are `play`, the one command that is built.
 abbrev pub is_play : List (List ℕ) → Bool
@@ -24,11 +25,15 @@ has_refusal replies = list_any is_refusal replies
 
 -- What comes of a script that is played from the beginning.
 abbrev pub played : List ℕ → Turns
-played script = turns empty_community (lines_of script)
+played script = turns empty_state (lines_of script)
 
 -- What playing the script writes.
 abbrev pub played_text : List ℕ → List ℕ
 played_text script = replies_text (played script).replies
+
+-- What running the line writes: its reply, and nothing where it is passed over.
+abbrev pub line_text : State → List ℕ → List ℕ
+line_text s line = replies_text (turns s (line ∷ [])).replies
 
 -- The lines that are left to run, where some are.
 abbrev pub lines_left : Option (Bor (List ℕ)) → List (List ℕ)

@@ -6,7 +6,8 @@ ghost use Rattle.sfx_model.specs.Members.{RepresentsWorld};
 ghost use Rattle.sfx_model.specs.World.{World, WellFormed};
 ghost use Rattle.sfx_community.specs.History.{AreNotAhead, HasHappened};
 ghost use Rattle.sfx_run.specs.Run.{has_refusal, is_play, played, played_text};
-ghost use Rattle.sfx_community.specs.Turn.{empty_community};
+ghost use Rattle.sfx_community.specs.State.{community_of};
+ghost use Rattle.sfx_community.specs.Turn.{empty_state};
 ghost use Rattle.sfx_run.specs.Status.{HasBrokenOff, HasNotBegun, IsAnswered};
 
 use crate::play::play;
@@ -26,14 +27,17 @@ pub fn run<A: Source, B: Sink>(
     out: &mut B,
 ) -> Status
     // Every line is answered: what is written are the replies, and nothing of the input is left.
-    ensures answered { IsAnswered result → IfSome (A.left input.old) (λ script. Adds (B.held out.old) (B.held out.new) (played_text script)) }
+    ensures answered { IsAnswered result →
+        IfSome (A.left input.old) (λ script. Adds (B.held out.old) (B.held out.new) (played_text script)) }
     ensures end { IsAnswered result → IsAtEnd (A.left input.new) }
-    ensures refused { result ≡ Status.Refused → IfSome (A.left input.old) (λ script. has_refusal (played script).replies ≡ true) }
-    ensures done { result ≡ Status.Done → IfSome (A.left input.old) (λ script. has_refusal (played script).replies ≡ false) }
+    ensures refused { result ≡ Status.Refused →
+        IfSome (A.left input.old) (λ script. has_refusal (played script).replies ≡ true) }
+    ensures done { result ≡ Status.Done →
+        IfSome (A.left input.old) (λ script. has_refusal (played script).replies ≡ false) }
 
     // What the script does happens in every world that the state at the start represents.
     ensures history { IsAnswered result → IfSome (A.left input.old) (λ script. (w : World) →
-        WellFormed w → RepresentsWorld w empty_community → HasHappened w empty_community (played script)) }
+        WellFormed w → RepresentsWorld w (community_of empty_state) → HasHappened w empty_state (played script)) }
 
     // No session of a script is refused because its source knows more of the destination than that made.
     ensures not_ahead { IsAnswered result → IfSome (A.left input.old) (λ script. AreNotAhead (played script).replies) }
@@ -43,20 +47,24 @@ pub fn run<A: Source, B: Sink>(
     ensures source_fault { result ≡ Status.SourceFault → HasRisen (A.faults input.old) (A.faults input.new) }
     ensures sink_fault { result ≡ Status.SinkFault → HasRisen (B.faults out.old) (B.faults out.new) }
     ensures too_long { result ≡ Status.TooLong → IfSome (A.left input.old) (λ script. MAX_INPUT < length script) }
-    ensures fits { (IsAnswered result ⊎ (result ≡ Status.SinkFault)) → IfSome (A.left input.old) (λ script. length script ≤ MAX_INPUT) }
+    ensures fits { (IsAnswered result ⊎ (result ≡ Status.SinkFault)) →
+        IfSome (A.left input.old) (λ script. length script ≤ MAX_INPUT) }
 
     // What is written then, and what is read.
     ensures silent { HasNotBegun result → B.held out.new ≡ B.held out.old }
-    ensures broken_off { HasBrokenOff result → IfSome (A.left input.old) (λ script. AddsFront (B.held out.old) (B.held out.new) (played_text script)) }
+    ensures broken_off { HasBrokenOff result →
+        IfSome (A.left input.old) (λ script. AddsFront (B.held out.old) (B.held out.new) (played_text script)) }
     ensures unread { result ≡ Status.Usage → A.left input.new ≡ A.left input.old }
 
     // Where no end fails and the input is not too long, every line is answered, or memory runs out.
     ensures complete { is_play (map string_bytes words.now.items) ≡ true →
-        (HasRisen (A.faults input.old) (A.faults input.new) → ⊥) → (HasRisen (B.faults out.old) (B.faults out.new) → ⊥) →
+        (HasRisen (A.faults input.old) (A.faults input.new) → ⊥) →
+        (HasRisen (B.faults out.old) (B.faults out.new) → ⊥) →
         IfSome (A.left input.old) (λ script. length script ≤ MAX_INPUT → IsAnswered result ⊎ (result ≡ Status.Memory)) }
     ensures refuses_long { is_play (map string_bytes words.now.items) ≡ true →
         (HasRisen (A.faults input.old) (A.faults input.new) → ⊥) →
-        IfSome (A.left input.old) (λ script. MAX_INPUT < length script → (result ≡ Status.TooLong) ⊎ (result ≡ Status.Memory)) }
+        IfSome (A.left input.old) (λ script.
+        MAX_INPUT < length script → (result ≡ Status.TooLong) ⊎ (result ≡ Status.Memory)) }
 {
     if !is_play(words) {
         return Status::Usage;

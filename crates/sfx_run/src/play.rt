@@ -5,10 +5,10 @@ ghost use Rattle.sfx_outside.specs.Sink.{Adds, AddsFront};
 ghost use Rattle.sfx_script.specs.Script.{is_passed, lines_of};
 ghost use Rattle.sfx_reply.specs.Reply.{is_refusal, reply_text};
 ghost use Rattle.sfx_run.specs.Run.{lines_left};
-ghost use Rattle.sfx_run.specs.Run.{has_refusal, played, played_text, replies_text};
+ghost use Rattle.sfx_run.specs.Run.{has_refusal, line_text, played, played_text};
 ghost use Rattle.sfx_community.specs.Turn.{turns};
 
-use sfx_community::Community;
+use sfx_community::State;
 use sfx_ids::Memory;
 use sfx_outside::{Sink, SinkFault, write_all};
 use sfx_reply::Reply;
@@ -26,12 +26,12 @@ pub fn play<B: Sink>(alloc: Global, script: &[u8], out: &mut B) -> Result<bool, 
     ensures faults { B.faults out.old ≤ B.faults out.new }
     ensures cause { IsErrOf result SinkFault.Failed → HasRisen (B.faults out.old) (B.faults out.new) }
 {
-    let mut community = Community::new(alloc);
+    let mut state = State::new();
     let mut has_refusal = false;
     let mut rest = Some(script);
     'lines: while let Some(script) = rest {
         let (line, left) = next_line(script);
-        let is_refused = answer(alloc, &mut community, line, out)?;
+        let is_refused = answer(alloc, &mut state, line, out)?;
         has_refusal |= is_refused;
         rest = left;
     }
@@ -55,21 +55,21 @@ fn next_line(script: &[u8]) -> (&[u8], Option<&[u8]>)
 /// refused.
 fn answer<B: Sink>(
     alloc: Global,
-    community: &mut Community,
+    state: &mut State,
     line: &[u8],
     out: &mut B,
 ) -> Result<bool, SinkFault>
-    ensures text { OnOk result (Adds (B.held out.old) (B.held out.new) (replies_text (turns community.old (line.now ∷ [])).replies)) }
-    ensures after { OnOk result (community.new ≡ (turns community.old (line.now ∷ [])).community) }
-    ensures refusal { IfOk result (λ refused. refused ≡ has_refusal (turns community.old (line.now ∷ [])).replies) }
-    ensures err { OnErr result (AddsFront (B.held out.old) (B.held out.new) (replies_text (turns community.old (line.now ∷ [])).replies)) }
+    ensures text { OnOk result (Adds (B.held out.old) (B.held out.new) (line_text state.old line.now)) }
+    ensures after { OnOk result (state.new ≡ (turns state.old (line.now ∷ [])).state) }
+    ensures refusal { IfOk result (λ refused. refused ≡ has_refusal (turns state.old (line.now ∷ [])).replies) }
+    ensures err { OnErr result (AddsFront (B.held out.old) (B.held out.new) (line_text state.old line.now)) }
     ensures faults { B.faults out.old ≤ B.faults out.new }
     ensures cause { IsErrOf result SinkFault.Failed → HasRisen (B.faults out.old) (B.faults out.new) }
 {
     if is_passed(line) {
         return Ok(false);
     }
-    match community.turn(alloc, line) {
+    match state.turn(alloc, line) {
         Ok(reply) => write_reply(alloc, &reply, out),
         Err(_) => Err(SinkFault::Memory),
     }

@@ -4,36 +4,38 @@ use Rattle.std.proofs.lemmas.Bool.Decides.{nat_tests}
 use Rattle.sfx_model.specs.Acting.{DeedsActIn, IsOrderly, TakePart}
 use Rattle.sfx_model.specs.Deeds.{session_deeds}
 use Rattle.sfx_model.specs.Knowing.{ahead_of, laid_known, most_known}
+use Rattle.sfx_model.specs.Consistent.{IsConsistent}
 use Rattle.sfx_model.specs.Members.{Member}
-use Rattle.sfx_model.specs.Rules.{skip_rules}
+use Rattle.sfx_model.specs.Rules.{Rules}
+use Rattle.sfx_model.specs.Session.{session_of}
 use Rattle.sfx_model.specs.World.{World}
 use Rattle.sfx_model.proofs.Concluding.{whole_session_acts}
 use Rattle.sfx_model.proofs.Most.{none_ahead}
-use Rattle.sfx_session.specs.Report.{skipping}
+use Rattle.sfx_model.proofs.Orderly.{orderly}
 
 -- a session between orderly members acts in each world of which they are two replicas
 pub session_acts :
-    (units : ℕ) (source first now : Member) (size : ℕ) (cut : Option ℕ)
-    → IsOrderly units source → IsOrderly units first → 1 ≤ size
-    → now ≡ (skipping units source first size cut).course.member
+    (units : ℕ) (source first now : Member) (rules : Rules) (size : ℕ) (cut : Option ℕ)
+    → IsConsistent units source → IsConsistent units first → 1 ≤ size
+    → now ≡ (session_of units source first rules size cut).course.member
     → (w : World) → TakePart w units source first
-    → DeedsActIn w (session_deeds units source first skip_rules size cut) source first.id now
-session_acts units source first now size cut theirs ours some is w part =
-    subst (λ (m : Member). DeedsActIn w (session_deeds units source first skip_rules size cut) source first.id m) (sym is)
+    → DeedsActIn w (session_deeds units source first rules size cut) source first.id now
+session_acts units source first now rules size cut theirs ours some is w part =
+    subst (λ (m : Member). DeedsActIn w (session_deeds units source first rules size cut) source first.id m) (sym is)
     (subst
     (λ (u : ℕ). IsOrderly u source → IsOrderly u first → 1 ≤ size
-    → DeedsActIn w (session_deeds u source first skip_rules size cut) source first.id (skipping u source first size cut).course.member)
+    → DeedsActIn w (session_deeds u source first rules size cut) source first.id (session_of u source first rules size cut).course.member)
     part.units_are
-    (whole_session_acts w source first skip_rules size cut part.well_formed part.apart part.source_stands part.stands)
-    theirs ours some)
+    (whole_session_acts w source first rules size cut part.well_formed part.apart part.source_stands part.stands)
+    (orderly units source theirs) (orderly units first ours) some)
 
 -- there the source knows and has forgotten no more of the destination than this one's clock tells
-within_clock : (w : World) (units : ℕ) (source destination : Member) → IsOrderly units source → TakePart w units source destination
+within_clock : (w : World) (units : ℕ) (source destination : Member) → IsConsistent units source → TakePart w units source destination
     → most_known destination.id (laid_known units source) source.forgotten ≤ destination.clock
 within_clock w units source destination theirs part =
     by_test (nat_lt destination.clock most) refl
     (subst (λ (u : ℕ). IsOrderly u source → ahead_of destination (laid_known u source) source.forgotten ≡ None) part.units_are
-    (none_ahead w source destination part.source_stands part.stands) theirs)
+    (none_ahead w source destination part.source_stands part.stands) (orderly units source theirs))
   where
     most : ℕ
     most = most_known destination.id (laid_known units source) source.forgotten
@@ -44,7 +46,7 @@ within_clock w units source destination theirs part =
 
 -- so such a tick is never greater than its clock
 pub never_ahead : (w : World) (units tick clock : ℕ) (source destination : Member)
-    → IsOrderly units source
+    → IsConsistent units source
     → tick ≡ most_known destination.id (laid_known units source) source.forgotten → clock ≡ destination.clock → clock < tick
     → TakePart w units source destination → ⊥
 never_ahead w units tick clock source destination theirs most clock_is ahead part =

@@ -29,8 +29,9 @@ use Rattle.sfx_model.specs.Entry.{Task, Unlisted, Change, task_plan, task_item, 
 use Rattle.sfx_model.specs.Knowing.{laid_known, ahead_of}
 use Rattle.sfx_model.specs.Members.{ItemState, MemberItem, Member, state_of}
 use Rattle.sfx_model.specs.Readings.{clashing_with, items_from}
-use Rattle.sfx_model.specs.Rules.{skip_rules}
+use Rattle.sfx_model.specs.Rules.{Rules}
 use Rattle.sfx_model.specs.Session.{Course, Outcome, Progress, SessionResult, after_range, ended, ending, go, is_end, is_more, reduced, session_from, session_of, set_out, stop_before, stop_or, with_entry}
+use Rattle.sfx_apply.specs.Rules.{LeavesConflicts}
 use Rattle.sfx_session.specs.Travel.{TravelData, due_batch, due_outcome}
 use Rattle.sfx_session.proofs.Travels.{from_start}
 use Rattle.sfx_model.proofs.Bounds.{less, next_batch, next_course, next_end, next_outcome, session_step}
@@ -50,18 +51,10 @@ unit_marks_unstamped (KnownUnit ∷ classes) = unit_marks_unstamped classes
 unit_marks_unstamped (Newer ∷ classes) = unit_marks_unstamped classes
 unit_marks_unstamped (Concurrent ∷ classes) = unit_marks_unstamped classes
 
-draft_unstamped : (units : ℕ) (class : Class) (seen here : Option ItemState) → IsUnstamped (draft_of units skip_rules class seen here).marks
-draft_unstamped units AllKnown seen here = same_marks Kept units refl
-draft_unstamped units TakeWhole seen here = same_marks Taken units refl
-draft_unstamped units (Units classes) seen here = unit_marks_unstamped classes
-draft_unstamped units WholeConflict seen here = same_marks Left units refl
-
 absent_unstamped : (units : ℕ) (class : Absent) (here : Option ItemState) → IsUnstamped (absent_draft units Skip class here).marks
 absent_unstamped units Keep here = same_marks Kept units refl
 absent_unstamped units Drop here = same_marks Gone units refl
 absent_unstamped units Conflict here = same_marks Left units refl
-
--- ---- a plan that draws no tick
 
 pub record IsQuiet (p : Plan) : Type 0 where
   pub marks : IsUnstamped p.draft.marks
@@ -77,69 +70,17 @@ named_quiet : (units : ℕ) (i : ItemId) (items : List MemberItem) (name : Optio
 named_quiet units i items None draft unstamped = record { marks = unstamped; others = refl }
 named_quiet units i items (Some name) draft unstamped = among_quiet units i items name (clashing_with name (Some i) items) draft unstamped
 
-task_unstamped : (units : ℕ) (b : Batch) (m : Member) (here : Option ItemState) (t : Task)
-    → IsUnstamped (task_draft units skip_rules b m here t).marks
-task_unstamped units b m here (Unlisted id) = absent_unstamped units (unlisted_class units (laid_known units m) b id here) here
-task_unstamped units b m here (Change item) =
-    draft_unstamped units (class_of units (laid_known units m) b.made_with (forgets_after b m) item here) (Some item.state) here
-
-pub plan_quiet : (units : ℕ) (b : Batch) (m : Member) (t : Task) → IsQuiet (task_plan units skip_rules b m t)
-unfolding task_plan
-plan_quiet units b m t =
-    let draft = task_draft units skip_rules b m (state_of m.items (task_item t)) t in
-    named_quiet units (task_item t) m.items (drafted_name draft) draft (task_unstamped units b m (state_of m.items (task_item t)) t)
-
 none_lacks : (p : Plan) (clock : ℕ) → IsQuiet p → lacks p clock ≡ false
 none_lacks p clock quiet = rw (quiet.marks, quiet.others) (grind (arith, nat_tests))
 
 quiet_stop : (p : Plan) (m : Member) → IsQuiet p → stop_before None p m ≡ None
 quiet_stop p m quiet = rw (none_lacks p m.clock quiet) refl
 
--- ---- the batch is applied whole
-
-pub goes_whole : (units : ℕ) (b : Batch) (p : Progress) (ts : List Task) → p.budget ≡ None → (go units b skip_rules p ts).end ≡ Whole
-unfolding go
-goes_whole units b p [] none = refl
-goes_whole units b p (t ∷ ts) none =
-    let plan = task_plan units skip_rules b p.member t in
-    ap (λ (stop : Option ApplyEnd). (stop_or stop p (go units b skip_rules (with_entry units b t (is_more ts) plan p) ts)).end)
-    (ap (λ (budget : Option ℕ). stop_before budget plan p.member) none ∙ quiet_stop plan p.member (plan_quiet units b p.member t))
-    ∙ goes_whole units b (with_entry units b t (is_more ts) plan p) ts (ap (λ (budget : Option ℕ). reduced budget 1) none)
-
--- ---- a session that is not cut is done
-
 ended_done : (next : Course) (to : Cut) (rest : SessionResult) → (ending to Whole None ≡ None → rest.end ≡ Done) → (ended next (ending to Whole None) rest).end ≡ Done
 ended_done next to rest goes = by_test (is_end to) goes where
   by_test : (b : Bool) → (cond b (Some Done) (let goes_on : Option SessionEnd = None in goes_on) ≡ None → rest.end ≡ Done) → (ended next (cond b (Some Done) None) rest).end ≡ Done
   by_test true goes = refl
   by_test false goes = goes refl
-
-next_ends_done : (units : ℕ) (source : Member) (mode : Mode) (size : ℕ) (c : Course) (from : Cut) (rest : SessionResult) → c.budget ≡ None
-    → (next_end units source mode skip_rules size c from ≡ None → rest.end ≡ Done)
-    → (ended (next_course units source mode skip_rules size c from) (next_end units source mode skip_rules size c from) rest).end ≡ Done
-next_ends_done units source mode size c from rest none goes =
-    let to = (next_batch units source mode size c from).to in
-    let is : next_end units source mode skip_rules size c from ≡ ending to Whole None =
-    ap (λ (e : ApplyEnd). ending to e (next_course units source mode skip_rules size c from).budget) (goes_whole units _ _ _ none)
-    ∙ ap (λ (budget : Option ℕ). ending to Whole (reduced budget (length (next_outcome units source mode skip_rules size c from).entries))) none in
-    ap (λ (e : Option SessionEnd). (ended (next_course units source mode skip_rules size c from) e rest).end) is
-    ∙ ended_done (next_course units source mode skip_rules size c from) to rest (λ on. goes (is ∙ on))
-
-pub ends_done : (bound units : ℕ) (source : Member) (mode : Mode) (size : ℕ) (c : Course) (from : Cut) → c.budget ≡ None
-    → length (items_from from source.items) ≤ bound
-    → (session_from (suc bound) units source mode skip_rules size c from).end ≡ Done
-ends_done zero units source mode size c from none enough =
-    ap (λ (r : SessionResult). r.end) (session_step zero units source mode skip_rules size c from)
-    ∙ next_ends_done units source mode size c from _ none
-    (λ on. absurd (omega (arith, enough, less units source mode size _ from _ _ on)))
-ends_done (suc bound) units source mode size c from none enough =
-    ap (λ (r : SessionResult). r.end) (session_step (suc bound) units source mode skip_rules size c from)
-    ∙ next_ends_done units source mode size c from _ none
-    (λ on. ends_done bound units source mode size (next_course units source mode skip_rules size c from) (next_batch units source mode size c from).to
-    (ap (λ (budget : Option ℕ). reduced budget (length (next_outcome units source mode skip_rules size c from).entries)) none)
-    (let fewer = less units source mode size _ from _ _ on in omega (arith, enough, fewer)))
-
--- ---- the clock stays
 
 -- the second member has the id and the clock of the first
 pub record Stays (m n : Member) : Type 0 where
@@ -156,31 +97,94 @@ task_stays units b t p m quiet = record {
 pub stays_on : (m n o : Member) → Stays m n → Stays n o → Stays m o
 stays_on m n o first next = record { id = next.id ∙ first.id; clock = next.clock ∙ first.clock }
 
-pub go_stays : (units : ℕ) (b : Batch) (p : Progress) (ts : List Task) → Stays p.member (go units b skip_rules p ts).member
-unfolding go after_range
-go_stays units b p [] = record { id = refl; clock = refl }
-go_stays units b p (t ∷ ts) =
-    let plan = task_plan units skip_rules b p.member t in
-    by_stop (stop_before p.budget plan p.member) (go units b skip_rules (with_entry units b t (is_more ts) plan p) ts)
-    (stays_on p.member (after_task units b t plan p.member) _ (task_stays units b t plan p.member (plan_quiet units b p.member t))
-    (go_stays units b (with_entry units b t (is_more ts) plan p) ts)) where
-      by_stop : (stop : Option ApplyEnd) (next : Outcome) → Stays p.member next.member → Stays p.member (stop_or stop p next).member
-      by_stop (Some end) next rest = record { id = refl; clock = refl }
-      by_stop None next rest = rest
-
 -- so what is ahead of it stays
 pub ahead_stays : (m n : Member) (known : Known) (forgotten : Forgets) → Stays m n → ahead_of n known forgotten ≡ ahead_of m known forgotten
 ahead_stays m n known forgotten stays = rw (stays.id, stays.clock) refl
 
-pub session_done : (units : ℕ) (source destination : Member) (size : ℕ) (cut : Option ℕ) → cut ≡ None
-    → (session_of units source destination skip_rules size cut).end ≡ Done
-unfolding session_of
-session_done units source destination size cut none =
-    rw (add-one)
-    (ends_done (length source.items) units source (mode_of units source.forgotten (laid_known units destination)) size (set_out cut destination) Start none
-    (from_start source.items))
+-- ---- under rules that leave conflicts alone
 
--- the next batch's destination stays as it is in id and clock
-pub outcome_stays : (units : ℕ) (source : Member) (mode : Mode) (size : ℕ) (now : Member) (t : TravelData)
-    → Stays now (due_outcome units source mode size now t).member
-outcome_stays units source mode size now t = go_stays units (due_batch units source mode size now t) _ _
+module _ (rules : Rules) (skip : LeavesConflicts rules) where
+  draft_unstamped : (units : ℕ) (class : Class) (seen here : Option ItemState) → IsUnstamped (draft_of units rules class seen here).marks
+  draft_unstamped units AllKnown seen here = same_marks Kept units refl
+  draft_unstamped units TakeWhole seen here = same_marks Taken units refl
+  draft_unstamped units (Units classes) seen here = rw skip.keep (unit_marks_unstamped classes)
+  draft_unstamped units WholeConflict seen here = rw skip.keep (same_marks Left units refl)
+
+  -- ---- a plan that draws no tick
+
+  task_unstamped : (units : ℕ) (b : Batch) (m : Member) (here : Option ItemState) (t : Task)
+      → IsUnstamped (task_draft units rules b m here t).marks
+  task_unstamped units b m here (Unlisted id) = rw skip.keep (absent_unstamped units (unlisted_class units (laid_known units m) b id here) here)
+  task_unstamped units b m here (Change item) =
+      draft_unstamped units (class_of units (laid_known units m) b.made_with (forgets_after b m) item here) (Some item.state) here
+
+  pub plan_quiet : (units : ℕ) (b : Batch) (m : Member) (t : Task) → IsQuiet (task_plan units rules b m t)
+  unfolding task_plan
+  plan_quiet units b m t =
+      let draft = task_draft units rules b m (state_of m.items (task_item t)) t in
+      rw skip.clash (named_quiet units (task_item t) m.items (drafted_name draft) draft (task_unstamped units b m (state_of m.items (task_item t)) t))
+
+  -- ---- the batch is applied whole
+
+  pub goes_whole : (units : ℕ) (b : Batch) (p : Progress) (ts : List Task) → p.budget ≡ None → (go units b rules p ts).end ≡ Whole
+  unfolding go
+  goes_whole units b p [] none = refl
+  goes_whole units b p (t ∷ ts) none =
+      let plan = task_plan units rules b p.member t in
+      ap (λ (stop : Option ApplyEnd). (stop_or stop p (go units b rules (with_entry units b t (is_more ts) plan p) ts)).end)
+      (ap (λ (budget : Option ℕ). stop_before budget plan p.member) none ∙ quiet_stop plan p.member (plan_quiet units b p.member t))
+      ∙ goes_whole units b (with_entry units b t (is_more ts) plan p) ts (ap (λ (budget : Option ℕ). reduced budget 1) none)
+
+  -- ---- a session that is not cut is done
+
+  next_ends_done : (units : ℕ) (source : Member) (mode : Mode) (size : ℕ) (c : Course) (from : Cut) (rest : SessionResult) → c.budget ≡ None
+      → (next_end units source mode rules size c from ≡ None → rest.end ≡ Done)
+      → (ended (next_course units source mode rules size c from) (next_end units source mode rules size c from) rest).end ≡ Done
+  next_ends_done units source mode size c from rest none goes =
+      let to = (next_batch units source mode size c from).to in
+      let is : next_end units source mode rules size c from ≡ ending to Whole None =
+      ap (λ (e : ApplyEnd). ending to e (next_course units source mode rules size c from).budget) (goes_whole units _ _ _ none)
+      ∙ ap (λ (budget : Option ℕ). ending to Whole (reduced budget (length (next_outcome units source mode rules size c from).entries))) none in
+      ap (λ (e : Option SessionEnd). (ended (next_course units source mode rules size c from) e rest).end) is
+      ∙ ended_done (next_course units source mode rules size c from) to rest (λ on. goes (is ∙ on))
+
+  pub ends_done : (bound units : ℕ) (source : Member) (mode : Mode) (size : ℕ) (c : Course) (from : Cut) → c.budget ≡ None
+      → length (items_from from source.items) ≤ bound
+      → (session_from (suc bound) units source mode rules size c from).end ≡ Done
+  ends_done zero units source mode size c from none enough =
+      ap (λ (r : SessionResult). r.end) (session_step zero units source mode rules size c from)
+      ∙ next_ends_done units source mode size c from _ none
+      (λ on. absurd (omega (arith, enough, less units source mode size _ from _ _ on)))
+  ends_done (suc bound) units source mode size c from none enough =
+      ap (λ (r : SessionResult). r.end) (session_step (suc bound) units source mode rules size c from)
+      ∙ next_ends_done units source mode size c from _ none
+      (λ on. ends_done bound units source mode size (next_course units source mode rules size c from) (next_batch units source mode size c from).to
+      (ap (λ (budget : Option ℕ). reduced budget (length (next_outcome units source mode rules size c from).entries)) none)
+      (let fewer = less units source mode size _ from _ _ on in omega (arith, enough, fewer)))
+
+  -- ---- the clock stays
+
+  pub go_stays : (units : ℕ) (b : Batch) (p : Progress) (ts : List Task) → Stays p.member (go units b rules p ts).member
+  unfolding go after_range
+  go_stays units b p [] = record { id = refl; clock = refl }
+  go_stays units b p (t ∷ ts) =
+      let plan = task_plan units rules b p.member t in
+      by_stop (stop_before p.budget plan p.member) (go units b rules (with_entry units b t (is_more ts) plan p) ts)
+      (stays_on p.member (after_task units b t plan p.member) _ (task_stays units b t plan p.member (plan_quiet units b p.member t))
+      (go_stays units b (with_entry units b t (is_more ts) plan p) ts)) where
+        by_stop : (stop : Option ApplyEnd) (next : Outcome) → Stays p.member next.member → Stays p.member (stop_or stop p next).member
+        by_stop (Some end) next rest = record { id = refl; clock = refl }
+        by_stop None next rest = rest
+
+  pub session_done : (units : ℕ) (source destination : Member) (size : ℕ) (cut : Option ℕ) → cut ≡ None
+      → (session_of units source destination rules size cut).end ≡ Done
+  unfolding session_of
+  session_done units source destination size cut none =
+      rw (add-one)
+      (ends_done (length source.items) units source (mode_of units source.forgotten (laid_known units destination)) size (set_out cut destination) Start none
+      (from_start source.items))
+
+  -- the next batch's destination stays as it is in id and clock
+  pub outcome_stays : (units : ℕ) (source : Member) (mode : Mode) (size : ℕ) (now : Member) (t : TravelData)
+      → Stays now (due_outcome units source mode rules size now t).member
+  outcome_stays units source mode size now t = go_stays units (due_batch units source mode size now t) _ _

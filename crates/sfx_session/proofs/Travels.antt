@@ -19,12 +19,13 @@ use Rattle.sfx_model.specs.Moments.{Moment, Learned, Stopped, state_at, committe
 use Rattle.sfx_model.specs.Batch.{mode_of}
 use Rattle.sfx_model.specs.Knowing.{laid_known}
 use Rattle.sfx_model.specs.Readings.{items_from}
-use Rattle.sfx_model.specs.Rules.{Rules, skip_rules}
+use Rattle.sfx_model.specs.Rules.{Rules}
 use Rattle.sfx_model.specs.Session.{AppliedBatch, Course, Outcome, Progress, SessionResult, applied_batch, ended, finished, go, is_end, is_more, reduced, session_from, session_of, stop_before, stop_or, with_entry}
 use Rattle.sfx_model.proofs.Sets.{has_left, has_right}
 use Rattle.sfx_model.proofs.Bounds.{less, open_end, next_batch, next_course, next_end, next_outcome, session_step}
-use Rattle.sfx_provider.specs.Course.{CameInPart}
-use Rattle.sfx_session.specs.Travel.{TravelData, arrival, departure, due_batch, due_outcome, travelled}
+use Rattle.sfx_provider.specs.Leaves.{Arrives, BreaksOff}
+use Rattle.sfx_provider.proofs.LeavesLemmas.{arrives_on, breaks_on}
+use Rattle.sfx_session.specs.Travel.{TravelData, arrival, departure, due_batch, due_outcome, next_arrival, next_travel, travelled}
 
 -- ---- moments that follow others
 
@@ -90,72 +91,69 @@ course_of now moments t = record { member = now; steps = t.steps; moments = mome
 
 -- It goes on to this result, within its bound; the destination came by what the moments so far commit, and
 -- is now one of the states that a storage may have been left at.
-pub record Travels (Came : List Member → Type 0) (units : ℕ) (source : Member) (mode : Mode) (size group : ℕ) (first : Member) (out : SessionResult) (now : Member) (t : TravelData) : Type 0 where
+pub record Travels (Came : List Member → Type 0) (units : ℕ) (source : Member) (mode : Mode) (rules : Rules) (size group : ℕ) (first : Member) (out : SessionResult) (now : Member) (t : TravelData) : Type 0 where
   pub bound : ℕ
   pub moments : List Moment
-  pub goes : session_from (suc bound) units source mode skip_rules size (course_of now moments t) t.from ≡ out
+  pub goes : session_from (suc bound) units source mode rules size (course_of now moments t) t.from ≡ out
   pub enough : length (items_from t.from source.items) ≤ bound
   pub came : Came (committed group moments)
   pub stands : Has now (stops group first moments)
 
 -- what the due batch leads to
-abbrev pub next_course_of : ℕ → Member → Mode → ℕ → Member → List Moment → TravelData → Course
-next_course_of units source mode size now moments t =
-    let o = due_outcome units source mode size now t in
+abbrev pub next_course_of : ℕ → Member → Mode → Rules → ℕ → Member → List Moment → TravelData → Course
+next_course_of units source mode rules size now moments t =
+    let o = due_outcome units source mode rules size now t in
     course_of o.member (moments ++ o.moments) (travelled (due_batch units source mode size now t) (applied_batch o) t)
 
-pub step_is : (bound units : ℕ) (source : Member) (mode : Mode) (size : ℕ) (now : Member) (moments : List Moment) (t : TravelData)
-    → session_from (suc bound) units source mode skip_rules size (course_of now moments t) t.from
-    ≡ ended (next_course_of units source mode size now moments t)
-    (arrival (due_batch units source mode size now t) (applied_batch (due_outcome units source mode size now t)) t)
-    (session_from bound units source mode skip_rules size (next_course_of units source mode size now moments t) (due_batch units source mode size now t).to)
-step_is bound units source mode size now moments t = session_step bound units source mode skip_rules size (course_of now moments t) t.from
+pub step_is : (bound units : ℕ) (source : Member) (mode : Mode) (rules : Rules) (size : ℕ) (now : Member) (moments : List Moment) (t : TravelData)
+    → session_from (suc bound) units source mode rules size (course_of now moments t) t.from
+    ≡ ended (next_course_of units source mode rules size now moments t)
+    (arrival (due_batch units source mode size now t) (applied_batch (due_outcome units source mode rules size now t)) t)
+    (session_from bound units source mode rules size (next_course_of units source mode rules size now moments t) (due_batch units source mode size now t).to)
+step_is bound units source mode rules size now moments t = session_step bound units source mode rules size (course_of now moments t) t.from
 
 -- the session ends with the due batch
-pub travel_off : (Came : List Member → Type 0) (units : ℕ) (source : Member) (mode : Mode) (size group : ℕ) (first : Member) (out : SessionResult) (now : Member) (t : TravelData) (end : SessionEnd)
-    → (travels : Travels Came units source mode size group first out now t)
-    → arrival (due_batch units source mode size now t) (applied_batch (due_outcome units source mode size now t)) t ≡ Some end
-    → out ≡ record { course = next_course_of units source mode size now travels.moments t; end = end }
-travel_off Came units source mode size group first out now t end travels ends =
-    sym travels.goes ∙ step_is travels.bound units source mode size now travels.moments t
-    ∙ ap (λ (e : Option SessionEnd). ended (next_course_of units source mode size now travels.moments t) e
-    (session_from travels.bound units source mode skip_rules size (next_course_of units source mode size now travels.moments t) (due_batch units source mode size now t).to)) ends
+pub travel_off : (Came : List Member → Type 0) (units : ℕ) (source : Member) (mode : Mode) (rules : Rules) (size group : ℕ) (first : Member) (out : SessionResult) (now : Member) (t : TravelData) (end : SessionEnd)
+    → (travels : Travels Came units source mode rules size group first out now t)
+    → arrival (due_batch units source mode size now t) (applied_batch (due_outcome units source mode rules size now t)) t ≡ Some end
+    → out ≡ record { course = next_course_of units source mode rules size now travels.moments t; end = end }
+travel_off Came units source mode rules size group first out now t end travels ends =
+    sym travels.goes ∙ step_is travels.bound units source mode rules size now travels.moments t
+    ∙ ap (λ (e : Option SessionEnd). ended (next_course_of units source mode rules size now travels.moments t) e
+    (session_from travels.bound units source mode rules size (next_course_of units source mode rules size now travels.moments t) (due_batch units source mode size now t).to)) ends
 
--- what is said of it then
-pub record Ended (Next : List Member → Type 0) (group : ℕ) (out : SessionResult) (now : Member) (t : TravelData) (end : SessionEnd) : Type 0 where
-  pub member : now ≡ out.course.member
+-- what is said of it then: the destination has come to the session's own end
+pub record Ended (Next : List Member → Member → Type 0) (group : ℕ) (out : SessionResult) (t : TravelData) (end : SessionEnd) : Type 0 where
   pub steps : t.steps ≡ out.course.steps
   pub end_is : end ≡ out.end
-  pub came : Next (committed group out.course.moments)
+  pub came : Next (committed group out.course.moments) out.course.member
 
-pub travel_ends : (Came Next : List Member → Type 0) (units : ℕ) (source : Member) (mode : Mode) (size group : ℕ) (first : Member) (out : SessionResult) (now : Member) (t : TravelData) (end : SessionEnd)
-    → Travels Came units source mode size group first out now t
-    → arrival (due_batch units source mode size now t) (applied_batch (due_outcome units source mode size now t)) t ≡ Some end
-    → ((xs : List Member) → Came xs → Next (xs ++ committed group (due_outcome units source mode size now t).moments))
-    → Ended Next group out (due_outcome units source mode size now t).member
-    (travelled (due_batch units source mode size now t) (applied_batch (due_outcome units source mode size now t)) t) end
-travel_ends Came Next units source mode size group first out now t end travels ends comes =
-    let is = travel_off Came units source mode size group first out now t end travels ends in record {
-      member = ap (λ (r : SessionResult). r.course.member) (sym is);
+pub travel_ends : (Came : List Member → Type 0) (Next : List Member → Member → Type 0) (units : ℕ) (source : Member) (mode : Mode) (rules : Rules) (size group : ℕ) (first : Member) (out : SessionResult) (now : Member) (t : TravelData) (end : SessionEnd)
+    → Travels Came units source mode rules size group first out now t
+    → next_arrival units source mode rules size now t ≡ Some end
+    → ((xs : List Member) → Came xs → Next (xs ++ committed group (due_outcome units source mode rules size now t).moments) (due_outcome units source mode rules size now t).member)
+    → Ended Next group out (next_travel units source mode rules size now t) end
+travel_ends Came Next units source mode rules size group first out now t end travels ends comes =
+    let is = travel_off Came units source mode rules size group first out now t end travels ends in record {
       steps = ap (λ (r : SessionResult). r.course.steps) (sym is);
       end_is = ap (λ (r : SessionResult). r.end) (sym is);
-      came = subst (λ (r : SessionResult). Next (committed group r.course.moments)) (sym is)
-          (rw (committed-append group travels.moments (due_outcome units source mode size now t).moments) (comes (committed group travels.moments) travels.came));
+      came = subst (λ (r : SessionResult). Next (committed group r.course.moments) r.course.member) (sym is)
+          (rw (committed-append group travels.moments (due_outcome units source mode rules size now t).moments) (comes (committed group travels.moments) travels.came));
     }
 
 -- the states of the due batch stand among those of the session
-pub travel_grows : (Came : List Member → Type 0) (units : ℕ) (source : Member) (mode : Mode) (size group : ℕ) (first : Member) (out : SessionResult) (now : Member) (t : TravelData)
-    → (travels : Travels Came units source mode size group first out now t)
-    → Grows (travels.moments ++ (due_outcome units source mode size now t).moments) out.course.moments
-travel_grows Came units source mode size group first out now t travels =
-    subst (λ (r : SessionResult). Grows (travels.moments ++ (due_outcome units source mode size now t).moments) r.course.moments)
-    (sym (step_is travels.bound units source mode size now travels.moments t) ∙ travels.goes)
-    (by_end (arrival (due_batch units source mode size now t) (applied_batch (due_outcome units source mode size now t)) t)) where
-      by_end : (end : Option SessionEnd) → Grows (travels.moments ++ (due_outcome units source mode size now t).moments)
-          (ended (next_course_of units source mode size now travels.moments t) end
-          (session_from travels.bound units source mode skip_rules size (next_course_of units source mode size now travels.moments t) (due_batch units source mode size now t).to)).course.moments
-      by_end (Some end) = record { further = []; all = sym (append-nil (travels.moments ++ (due_outcome units source mode size now t).moments)) }
-      by_end None = session_grows travels.bound units source mode skip_rules size (next_course_of units source mode size now travels.moments t) (due_batch units source mode size now t).to
+pub travel_grows : (Came : List Member → Type 0) (units : ℕ) (source : Member) (mode : Mode) (rules : Rules) (size group : ℕ) (first : Member) (out : SessionResult) (now : Member) (t : TravelData)
+    → (travels : Travels Came units source mode rules size group first out now t)
+    → Grows (travels.moments ++ (due_outcome units source mode rules size now t).moments) out.course.moments
+travel_grows Came units source mode rules size group first out now t travels =
+    subst (λ (r : SessionResult). Grows (travels.moments ++ (due_outcome units source mode rules size now t).moments) r.course.moments)
+    (sym (step_is travels.bound units source mode rules size now travels.moments t) ∙ travels.goes)
+    (by_end (arrival (due_batch units source mode size now t) (applied_batch (due_outcome units source mode rules size now t)) t)) where
+      by_end : (end : Option SessionEnd) → Grows (travels.moments ++ (due_outcome units source mode rules size now t).moments)
+          (ended (next_course_of units source mode rules size now travels.moments t) end
+          (session_from travels.bound units source mode rules size (next_course_of units source mode rules size now travels.moments t) (due_batch units source mode size now t).to)).course.moments
+      by_end (Some end) = record { further = []; all = sym (append-nil (travels.moments ++ (due_outcome units source mode rules size now t).moments)) }
+      by_end None = session_grows travels.bound units source mode rules size (next_course_of units source mode rules size now travels.moments t) (due_batch units source mode size now t).to
 
 -- the destination after a batch is one of the states that a storage may have been left at
 pub stands_on : (group : ℕ) (first now next : Member) (moments more : List Moment) → IsStop group next more → Has next (stops group first (moments ++ more))
@@ -164,29 +162,29 @@ stands_on group first now next moments more there =
     (has_right next (stops group first moments) (map state_at (filter (is_stop group) more)) there)
 
 -- the session goes on behind the due batch
-pub travel_on : (Came Next : List Member → Type 0) (units : ℕ) (source : Member) (mode : Mode) (size group : ℕ) (first : Member) (out : SessionResult) (now : Member) (t : TravelData)
-    → Travels Came units source mode size group first out now t
-    → arrival (due_batch units source mode size now t) (applied_batch (due_outcome units source mode size now t)) t ≡ None
-    → ((xs : List Member) → Came xs → Next (xs ++ committed group (due_outcome units source mode size now t).moments))
-    → Travels Next units source mode size group first out (due_outcome units source mode size now t).member
-    (travelled (due_batch units source mode size now t) (applied_batch (due_outcome units source mode size now t)) t)
-travel_on Came Next units source mode size group first out now t travels goes comes =
+pub travel_on : (Came Next : List Member → Type 0) (units : ℕ) (source : Member) (mode : Mode) (rules : Rules) (size group : ℕ) (first : Member) (out : SessionResult) (now : Member) (t : TravelData)
+    → Travels Came units source mode rules size group first out now t
+    → arrival (due_batch units source mode size now t) (applied_batch (due_outcome units source mode rules size now t)) t ≡ None
+    → ((xs : List Member) → Came xs → Next (xs ++ committed group (due_outcome units source mode rules size now t).moments))
+    → Travels Next units source mode rules size group first out (due_outcome units source mode rules size now t).member
+    (travelled (due_batch units source mode size now t) (applied_batch (due_outcome units source mode rules size now t)) t)
+travel_on Came Next units source mode rules size group first out now t travels goes comes =
     by_bound travels.bound travels.goes travels.enough where
-      by_bound : (bound : ℕ) → session_from (suc bound) units source mode skip_rules size (course_of now travels.moments t) t.from ≡ out
+      by_bound : (bound : ℕ) → session_from (suc bound) units source mode rules size (course_of now travels.moments t) t.from ≡ out
           → length (items_from t.from source.items) ≤ bound
-          → Travels Next units source mode size group first out (due_outcome units source mode size now t).member
-          (travelled (due_batch units source mode size now t) (applied_batch (due_outcome units source mode size now t)) t)
+          → Travels Next units source mode rules size group first out (due_outcome units source mode rules size now t).member
+          (travelled (due_batch units source mode size now t) (applied_batch (due_outcome units source mode rules size now t)) t)
       by_bound zero is enough = absurd (omega (arith, enough, less units source mode size _ t.from _ _ goes))
       by_bound (suc bound) is enough = record {
         bound = bound;
-        moments = travels.moments ++ (due_outcome units source mode size now t).moments;
-        goes = ap (λ (e : Option SessionEnd). ended (next_course_of units source mode size now travels.moments t) e
-            (session_from (suc bound) units source mode skip_rules size (next_course_of units source mode size now travels.moments t) (due_batch units source mode size now t).to)) (sym goes)
-            ∙ sym (step_is (suc bound) units source mode size now travels.moments t) ∙ is;
+        moments = travels.moments ++ (due_outcome units source mode rules size now t).moments;
+        goes = ap (λ (e : Option SessionEnd). ended (next_course_of units source mode rules size now travels.moments t) e
+            (session_from (suc bound) units source mode rules size (next_course_of units source mode rules size now travels.moments t) (due_batch units source mode size now t).to)) (sym goes)
+            ∙ sym (step_is (suc bound) units source mode rules size now travels.moments t) ∙ is;
         enough = (let fewer = less units source mode size _ t.from _ _ goes in omega (arith, enough, fewer));
-        came = rw (committed-append group travels.moments (due_outcome units source mode size now t).moments) (comes (committed group travels.moments) travels.came);
-        stands = stands_on group first now (due_outcome units source mode size now t).member travels.moments (due_outcome units source mode size now t).moments
-            (go_stops group units (due_batch units source mode size now t) skip_rules _ _);
+        came = rw (committed-append group travels.moments (due_outcome units source mode rules size now t).moments) (comes (committed group travels.moments) travels.came);
+        stands = stands_on group first now (due_outcome units source mode rules size now t).member travels.moments (due_outcome units source mode rules size now t).moments
+            (go_stops group units (due_batch units source mode size now t) rules _ _);
       }
 
 -- all items are from the start on
@@ -196,11 +194,11 @@ from_start items =
     omega (arith, kept)
 
 -- a session sets out
-pub travel_begins : (Came : List Member → Type 0) (units : ℕ) (source first : Member) (mode : Mode) (size group : ℕ) (cut : Option ℕ)
+pub travel_begins : (Came : List Member → Type 0) (units : ℕ) (source first : Member) (mode : Mode) (rules : Rules) (size group : ℕ) (cut : Option ℕ)
     → mode ≡ mode_of units source.forgotten (laid_known units first) → Came []
-    → Travels Came units source mode size group first (session_of units source first skip_rules size cut) first (departure cut)
+    → Travels Came units source mode rules size group first (session_of units source first rules size cut) first (departure cut)
 unfolding session_of
-travel_begins Came units source first mode size group cut is came = record {
+travel_begins Came units source first mode rules size group cut is came = record {
   bound = length source.items;
   moments = [];
   goes = rw (is, add-one) refl;
@@ -210,18 +208,6 @@ travel_begins Came units source first mode size group cut is came = record {
 }
 
 -- ---- what a fault leaves
-
--- a part of what follows a stretch is a part of all
-pub part_on : {P : Type 0} (came : P → P → List Member → Type 0) (broke : P → P → Member → Type 0) (p q r : P) (xs zs ys states : List Member)
-    → ((a b c : P) (m n : List Member) → came a b m → came b c n → came a c (m ++ n))
-    → came p q xs → CameInPart came broke q r zs → xs ++ (zs ++ ys) ≡ states → CameInPart came broke p r states
-part_on {P} came broke p q r xs zs ys states on first part all = elim part [
-  | inl made ↦ inl (xs ++ made.0, made.1 ++ ys, rejoin made.0 made.1 made.2, on p q r xs made.0 first made.3)
-  | inr broken ↦ inr (broken.0, xs ++ broken.1, broken.2, broken.3 ++ ys, rejoin broken.1 (broken.2 ∷ broken.3) broken.4, on p q broken.0 xs broken.1 first broken.5, broken.6)
-]
-  where
-    rejoin : (made left : List Member) → made ++ left ≡ zs → (xs ++ made) ++ (left ++ ys) ≡ states
-    rejoin made left is = append_assoc xs made (left ++ ys) ∙ ap (λ l. xs ++ l) (sym (append_assoc made left ys) ∙ ap (λ l. l ++ ys) is) ∙ all
 
 -- the committed states of a stretch and of what follows it stand in front of all
 pub committed_front : (group : ℕ) (before more all : List Moment) (grows : Grows (before ++ more) all)
@@ -244,14 +230,9 @@ stop_on group first now m before more all grows stands there =
     ])))
 
 -- the destination after a batch is one of the states that a storage may be left at in it
-pub outcome_stops : (group units : ℕ) (source : Member) (mode : Mode) (size : ℕ) (now : Member) (t : TravelData)
-    → Has (due_outcome units source mode size now t).member (stops group now (due_outcome units source mode size now t).moments)
-outcome_stops group units source mode size now t = inr (go_stops group units (due_batch units source mode size now t) skip_rules _ _)
-
--- what is kept is the state, which is one of these
-pub kept_in : (kept : Option Member) (now : Member) (states : List Member) → IfSome kept (λ k. k ≡ now) → Has now states → IfSome kept (λ k. Has k states)
-kept_in None now states told there = tt
-kept_in (Some k) now states told there = subst (λ (m : Member). Has m states) (sym told) there
+pub outcome_stops : (group units : ℕ) (source : Member) (mode : Mode) (rules : Rules) (size : ℕ) (now : Member) (t : TravelData)
+    → Has (due_outcome units source mode rules size now t).member (stops group now (due_outcome units source mode rules size now t).moments)
+outcome_stops group units source mode rules size now t = inr (go_stops group units (due_batch units source mode size now t) rules _ _)
 
 -- ---- at the exits of the loop
 
@@ -265,49 +246,57 @@ goes_to_place b a t goes = by_cut b.to (open_end b.to a.end (reduced t.budget (l
     by_cut (After i) more = tt
     by_cut End more = absurd (true≢false more)
 
--- where one batch was applied and the session ends with it, as it was answered, all of the session is done
-pub batch_ends : {P : Type 0} (came : P → P → List Member → Type 0) (p q r : P)
-    (units : ℕ) (source : Member) (mode : Mode) (size group : ℕ) (first : Member) (out : SessionResult) (now : Member) (t : TravelData)
-    (seen next : Member) (later : TravelData) (answer : Option SessionEnd) (end : SessionEnd)
-    → ((a b c : P) (m n : List Member) → came a b m → came b c n → came a c (m ++ n))
-    → Travels (came p q) units source mode size group first out now t
-    → seen ≡ source
-    → answer ≡ arrival (due_batch units seen mode size now t) (applied_batch (due_outcome units seen mode size now t)) t
-    → answer ≡ Some end
-    → later ≡ travelled (due_batch units seen mode size now t) (applied_batch (due_outcome units seen mode size now t)) t
-    → next ≡ (due_outcome units seen mode size now t).member
-    → came q r (committed group (due_outcome units seen mode size now t).moments)
-    → Ended (came p r) group out next later end
-batch_ends came p q r units source mode size group first out now t seen next later answer end on travels same answered is travel state comes =
-    let o = due_outcome units source mode size now t in
-    let ends : arrival (due_batch units source mode size now t) (applied_batch o) t ≡ Some end = rw same at (sym answered ∙ is) in
-    let all = travel_ends (came p q) (came p r) units source mode size group first out now t end travels ends
-    (λ xs before. on p q r xs (committed group o.moments) before (rw same at comes)) in record {
-      member = (rw same at state) ∙ all.member;
-      steps = ap (λ (x : TravelData). x.steps) (rw same at travel) ∙ all.steps;
-      end_is = all.end_is;
-      came = all.came;
-    }
+-- ---- a provider under way: it has come so far by what the moments so far commit
 
--- a fault in a batch leaves a part of the session's commits
-pub fault_on : {P : Type 0} (came : P → P → List Member → Type 0) (broke : P → P → Member → Type 0) (p q r : P)
-    (units : ℕ) (source : Member) (mode : Mode) (size group : ℕ) (first : Member) (out : SessionResult) (now : Member) (t : TravelData)
-    → ((a b c : P) (m n : List Member) → came a b m → came b c n → came a c (m ++ n))
-    → Travels (came p q) units source mode size group first out now t
-    → CameInPart came broke q r (committed group (due_outcome units source mode size now t).moments)
-    → CameInPart came broke p r (committed group out.course.moments)
-fault_on came broke p q r units source mode size group first out now t on travels part =
-    let grows = travel_grows (came p q) units source mode size group first out now t travels in
-    part_on came broke p q r (committed group travels.moments) (committed group (due_outcome units source mode size now t).moments)
-    (committed group grows.further) (committed group out.course.moments) on travels.came part
-    (committed_front group travels.moments (due_outcome units source mode size now t).moments out.course.moments grows)
+module _ {P : Type 0} {state : P → Member} {kept : P → Option Member} {settled : P → Type 0} {came : P → P → List Member → Type 0}
+    (units : ℕ) (source : Member) (mode : Mode) (rules : Rules) (size group : ℕ) (first : Member) (out : SessionResult) (now : Member) (t : TravelData)
+    (seen : Member) where
+  -- where one batch was applied and the session ends with it, as it was answered, all of the session is done
+  pub batch_ends : {p q r : P} (later : TravelData) (answer : Option SessionEnd) (end : SessionEnd)
+      → ((a b c : P) (m n : List Member) → came a b m → came b c n → came a c (m ++ n))
+      → Travels (λ xs. Arrives state kept settled came p q xs now) units source mode rules size group first out now t
+      → seen ≡ source
+      → answer ≡ next_arrival units seen mode rules size now t → answer ≡ Some end
+      → later ≡ next_travel units seen mode rules size now t
+      → Arrives state kept settled came q r (committed group (due_outcome units seen mode rules size now t).moments) (due_outcome units seen mode rules size now t).member
+      → Ended (Arrives state kept settled came p r) group out later end
+  batch_ends {p = p} {q = q} {r = r} later answer end on travels same answered is travel comes =
+      let ends : next_arrival units source mode rules size now t ≡ Some end = rw same at (sym answered ∙ is) in
+      let all = travel_ends (λ xs. Arrives state kept settled came p q xs now) (Arrives state kept settled came p r)
+      units source mode rules size group first out now t end travels ends (λ xs before. arrives_on on before (rw same at comes)) in record {
+        steps = ap (λ (x : TravelData). x.steps) (rw same at travel) ∙ all.steps;
+        end_is = all.end_is;
+        came = all.came;
+      }
 
--- what is kept then is a state that the session passes
-pub kept_on : (Came : List Member → Type 0) (units : ℕ) (source : Member) (mode : Mode) (size group : ℕ) (first : Member) (out : SessionResult) (now : Member) (t : TravelData) (kept : Option Member)
-    → Travels Came units source mode size group first out now t
-    → IfSome kept (λ k. Has k (stops group now (due_outcome units source mode size now t).moments))
-    → IfSome kept (λ k. Has k (stops group first out.course.moments))
-kept_on Came units source mode size group first out now t None travels there = tt
-kept_on Came units source mode size group first out now t (Some k) travels there =
-    stop_on group first now k travels.moments (due_outcome units source mode size now t).moments out.course.moments
-    (travel_grows Came units source mode size group first out now t travels) travels.stands there
+  -- where it goes on, the session is further under way
+  pub batch_goes : {p q r : P} (later : TravelData)
+      → ((a b c : P) (m n : List Member) → came a b m → came b c n → came a c (m ++ n))
+      → Travels (λ xs. Arrives state kept settled came p q xs now) units source mode rules size group first out now t
+      → seen ≡ source
+      → next_arrival units source mode rules size now t ≡ None
+      → later ≡ next_travel units seen mode rules size now t
+      → Arrives state kept settled came q r (committed group (due_outcome units seen mode rules size now t).moments) (due_outcome units seen mode rules size now t).member
+      → Travels (λ xs. Arrives state kept settled came p r xs (state r)) units source mode rules size group first out (state r) later
+  batch_goes {p = p} {q = q} {r = r} later on travels same goes travel comes =
+      let done : Arrives state kept settled came q r (committed group (due_outcome units source mode rules size now t).moments) (due_outcome units source mode rules size now t).member =
+      rw same at comes in
+      let next = travel_on (λ xs. Arrives state kept settled came p q xs now)
+      (λ xs. Arrives state kept settled came p r xs (due_outcome units source mode rules size now t).member)
+      units source mode rules size group first out now t travels goes (λ xs before. arrives_on on before done) in
+      rw (travel, same, done.at) next
+
+  -- a fault in a batch breaks off the session
+  pub batch_breaks : {broke : P → P → Member → Type 0} {p q r : P}
+      → ((a b c : P) (m n : List Member) → came a b m → came b c n → came a c (m ++ n))
+      → Travels (λ xs. Arrives state kept settled came p q xs now) units source mode rules size group first out now t
+      → seen ≡ source
+      → BreaksOff kept came broke q r (committed group (due_outcome units seen mode rules size now t).moments) (stops group now (due_outcome units seen mode rules size now t).moments)
+      → BreaksOff kept came broke p r (committed group out.course.moments) (stops group first out.course.moments)
+  batch_breaks {p = p} {q = q} on travels same breaks =
+      let moments = (due_outcome units source mode rules size now t).moments in
+      let grows = travel_grows (λ xs. Arrives state kept settled came p q xs now) units source mode rules size group first out now t travels in
+      breaks_on (committed group travels.moments) (committed group moments) (committed group grows.further) (committed group out.course.moments)
+      (stops group first out.course.moments) on travels.came (rw same at breaks)
+      (committed_front group travels.moments moments out.course.moments grows)
+      (λ m there. stop_on group first now m travels.moments moments out.course.moments grows travels.stands there)

@@ -1,20 +1,59 @@
--- What a session's answer says of the counts of faults of source and destination.
-use Rattle.std.specs.Prelude.{ℕ, ◌≤◌, Result, Ok, Err}
-use Rattle.sfx_outside.specs.Fault.{HasRisen}
+-- Whom a session's fault blames, and which faults are refusals.
+use Rattle.std.specs.Prelude.{Bool, true, false}
+use Rattle.sfx_provider.specs.declared.provider_fault.ProviderFault.{ProviderFault}
+use Rattle.sfx_provider.specs.declared.provider_fault.ProviderFault.TheVariants as provider
 use Rattle.sfx_session.specs.declared.session_fault.SessionFault.{SessionFault}
 use Rattle.sfx_session.specs.declared.session_fault.SessionFault.TheVariants.{SameReplica, Ahead, NotBuilt, Source, Destination, Memory}
+use Rattle.sfx_session.specs.declared.side.Side.{Side}
+use Rattle.sfx_session.specs.declared.side.Side.TheVariants as sides
 
--- Where the answer is the source's fault, its count has risen, and where it is the destination's, that one's.
-abbrev pub IsCaused : ℕ → ℕ → ℕ → ℕ → SessionFault → Type 0
-IsCaused source source_now destination destination_now SameReplica = Unit {0}
-IsCaused source source_now destination destination_now (Ahead tick clock) = Unit {0}
-IsCaused source source_now destination destination_now NotBuilt = Unit {0}
-IsCaused source source_now destination destination_now Source = HasRisen source source_now
-IsCaused source source_now destination destination_now Destination = HasRisen destination destination_now
-IsCaused source source_now destination destination_now Memory = Unit {0}
+-- The fault is one of the source's provider.
+abbrev pub blames_source : SessionFault → Bool
+blames_source SameReplica = false
+blames_source (Ahead tick clock) = false
+blames_source NotBuilt = false
+blames_source Source = true
+blames_source Destination = false
+blames_source Memory = false
 
--- Neither count fell, and the fault of a provider comes only where its count has risen.
-abbrev pub HasCauses : {T : Type 0} → ℕ → ℕ → ℕ → ℕ → Result T SessionFault → Type 0
-HasCauses source source_now destination destination_now (Ok x) = (source ≤ source_now) × (destination ≤ destination_now)
-HasCauses source source_now destination destination_now (Err fault) =
-    (source ≤ source_now) × (destination ≤ destination_now) × IsCaused source source_now destination destination_now fault
+-- The fault is one of the destination's provider.
+abbrev pub blames_destination : SessionFault → Bool
+blames_destination SameReplica = false
+blames_destination (Ahead tick clock) = false
+blames_destination NotBuilt = false
+blames_destination Source = false
+blames_destination Destination = true
+blames_destination Memory = false
+
+-- The fault is one of the provider on this side.
+abbrev pub blames : Side → SessionFault → Bool
+blames sides.Source fault = blames_source fault
+blames sides.Destination fault = blames_destination fault
+
+-- The session was refused, before anything changed.
+abbrev pub is_refusal : SessionFault → Bool
+is_refusal SameReplica = true
+is_refusal (Ahead tick clock) = true
+is_refusal NotBuilt = true
+is_refusal Source = false
+is_refusal Destination = false
+is_refusal Memory = false
+
+-- The session was refused because the source is ahead of the destination.
+abbrev pub is_ahead : SessionFault → Bool
+is_ahead SameReplica = false
+is_ahead (Ahead tick clock) = true
+is_ahead NotBuilt = false
+is_ahead Source = false
+is_ahead Destination = false
+is_ahead Memory = false
+
+-- The fault of a session whose provider on this side failed.
+abbrev pub storage_fault : Side → SessionFault
+storage_fault sides.Source = Source
+storage_fault sides.Destination = Destination
+
+-- The fault of a session whose provider on this side answered with that fault.
+abbrev pub fault_at : Side → ProviderFault → SessionFault
+fault_at side provider.Failed = storage_fault side
+fault_at side provider.Memory = Memory

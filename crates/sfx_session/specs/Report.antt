@@ -1,12 +1,12 @@
 -- The report of a session.
-use Rattle.std.specs.Prelude.{ℕ, List, Option}
+use Rattle.std.specs.Prelude.{ℕ, ◌≤◌, IfSome, List, Option}
 use Rattle.sfx_model.specs.declared.mode.Mode.{Mode}
 use Rattle.sfx_model.specs.declared.session_end.SessionEnd.{SessionEnd}
 use Rattle.sfx_model.specs.Batch.{mode_of}
 use Rattle.sfx_model.specs.Knowing.{laid_known}
 use Rattle.sfx_model.specs.Members.{Member}
-use Rattle.sfx_model.specs.Rules.{skip_rules}
-use Rattle.sfx_model.specs.Session.{Step, SessionResult, session_of}
+use Rattle.sfx_model.specs.Rules.{Rules}
+use Rattle.sfx_model.specs.Session.{Step, session_of}
 
 -- A report as plain data.
 pub record ReportData : Type 0 where
@@ -14,14 +14,17 @@ pub record ReportData : Type 0 where
   pub steps : List Step
   pub end : SessionEnd
 
--- The session that leaves each conflict alone.
-abbrev pub skipping : ℕ → Member → Member → ℕ → Option ℕ → SessionResult
-skipping units source destination size cut = session_of units source destination skip_rules size cut
-
--- Its report.
-abbrev pub report_of : ℕ → Member → Member → ℕ → Option ℕ → ReportData
-report_of units source destination size cut = record {
+-- The report of a session by these rules.
+abbrev pub report_of : ℕ → Member → Member → Rules → ℕ → Option ℕ → ReportData
+report_of units source destination rules size cut = record {
   mode = mode_of units source.forgotten (laid_known units destination);
-  steps = (skipping units source destination size cut).course.steps;
-  end = (skipping units source destination size cut).end;
+  steps = (session_of units source destination rules size cut).course.steps;
+  end = (session_of units source destination rules size cut).end;
 }
+
+-- The numbers of a session are in range: it has batches of at least one change, groups of at least one entry,
+-- and where it is cut at least one entry is asked for.
+pub record AreLimits (size group : ℕ) (cut : Option ℕ) : Type 0 where
+  pub sized : 1 ≤ size
+  pub grouped : 1 ≤ group
+  pub asked : IfSome cut (λ n. 1 ≤ n)

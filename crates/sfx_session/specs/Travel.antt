@@ -7,8 +7,8 @@ use Rattle.sfx_model.specs.declared.session_end.SessionEnd.{SessionEnd}
 use Rattle.sfx_model.specs.Batch.{Batch, batch_from}
 use Rattle.sfx_model.specs.Knowing.{laid_known}
 use Rattle.sfx_model.specs.Members.{Member}
-use Rattle.sfx_model.specs.Rules.{skip_rules}
-use Rattle.sfx_model.specs.Session.{AppliedBatch, Outcome, Step, applied, ending, reduced}
+use Rattle.sfx_model.specs.Rules.{Rules}
+use Rattle.sfx_model.specs.Session.{AppliedBatch, Outcome, Step, applied, applied_batch, ending, reduced}
 
 -- A session under way: the place where its next batch begins, the batches so far, and how many more
 -- entries were asked for.
@@ -25,10 +25,10 @@ departure cut = record { from = Start; steps = []; budget = cut }
 abbrev pub due_batch : ℕ → Member → Mode → ℕ → Member → TravelData → Batch
 due_batch units source mode size now t = batch_from units source mode size (laid_known units now) t.from
 
--- What comes of it.
-abbrev pub due_outcome : ℕ → Member → Mode → ℕ → Member → TravelData → Outcome
-due_outcome units source mode size now t =
-    applied units (due_batch units source mode size now t) skip_rules t.budget now
+-- What comes of it, by these rules.
+abbrev pub due_outcome : ℕ → Member → Mode → Rules → ℕ → Member → TravelData → Outcome
+due_outcome units source mode rules size now t =
+    applied units (due_batch units source mode size now t) rules t.budget now
 
 -- The session with one more batch, which was applied so.
 abbrev pub travelled : Batch → AppliedBatch → TravelData → TravelData
@@ -41,3 +41,12 @@ travelled b a t = record {
 -- Whether the session ends with the batch.
 abbrev pub arrival : Batch → AppliedBatch → TravelData → Option SessionEnd
 arrival b a t = ending b.to a.end (reduced t.budget (length a.entries))
+
+-- The session after the batch that is due, and whether it ends with that.
+abbrev pub next_travel : ℕ → Member → Mode → Rules → ℕ → Member → TravelData → TravelData
+next_travel units source mode rules size now t =
+    travelled (due_batch units source mode size now t) (applied_batch (due_outcome units source mode rules size now t)) t
+
+abbrev pub next_arrival : ℕ → Member → Mode → Rules → ℕ → Member → TravelData → Option SessionEnd
+next_arrival units source mode rules size now t =
+    arrival (due_batch units source mode size now t) (applied_batch (due_outcome units source mode rules size now t)) t

@@ -1,36 +1,45 @@
-ghost use Rattle.std.specs.Prelude.{◌≡◌, ◌≤◌, ◌↔◌, ℕ, [], IfOk, OnOk, IsErrOf};
-ghost use Rattle.sfx_model.specs.Acting.{IsOrderly, TakePart};
+ghost use Rattle.std.specs.Prelude.{◌≡◌, ◌≤◌, ◌↔◌, IfErr, IfOk, OnOk, IsErrOf};
+ghost use Rattle.sfx_model.specs.declared.mode.Mode.TheVariants.{Normal};
+ghost use Rattle.sfx_model.specs.Acting.{TakePart};
 ghost use Rattle.sfx_model.specs.Batch.{mode_of};
+ghost use Rattle.sfx_model.specs.Consistent.{IsConsistent};
 ghost use Rattle.sfx_model.specs.Knowing.{laid_known, most_known};
 ghost use Rattle.sfx_model.specs.World.{World};
-ghost use Rattle.sfx_session.specs.Fault.{HasCauses};
-ghost use Rattle.sfx_session.specs.Refusals.{IsNoRefusal, IsNotAhead, Refuses, refusal_of};
+ghost use Rattle.sfx_provider.specs.Answer.{IsNever, Refuses};
+ghost use Rattle.sfx_provider.specs.Fault.{HasCause};
+ghost use Rattle.sfx_provider.specs.Leaves.{Rests};
+ghost use Rattle.sfx_session.specs.Fault.{blames_destination, blames_source, is_ahead, is_refusal};
+ghost use Rattle.sfx_session.specs.Refusals.{refusal_of};
 
 use crate::SessionFault;
-use crate::heads::{destination_head, source_head};
+use crate::heads::head_of;
+use crate::side::Side;
+use sfx_apply::most_known;
 use sfx_ids::ReplicaId;
 use sfx_knowledge::{Forgotten, Knowledge};
 use sfx_model::Mode;
 use sfx_provider::Provider;
 use std::alloc::Global;
 
-/// Whether the session may begin; nothing changes.
+/// The mode of the session, where it may begin; nothing changes.
 pub(crate) fn refuse<const U: usize, P: Provider<U>, Q: Provider<U>>(
     alloc: Global,
     source: &mut P,
     destination: &mut Q,
-) -> Result<(), SessionFault>
-    ensures refused { Refuses result (refusal_of U (P.state source.old) (Q.state destination.old)) }
-    ensures orderly { OnOk result (IsOrderly U (P.state source.old) × IsOrderly U (Q.state destination.old)) }
-    ensures not_ahead { (w : World) → TakePart w U (P.state source.old) (Q.state destination.old) → IsNotAhead result }
+) -> Result<Mode, SessionFault>
+    ensures mode { let known = laid_known U (Q.state destination.old) in
+        IfOk result (λ mode. mode ≡ mode_of U (P.state source.old).forgotten known) }
+    ensures normal { IfOk result (λ mode. mode ≡ Normal) }
+    ensures refused { Refuses is_refusal result (refusal_of U (P.state source.old) (Q.state destination.old)) }
+    ensures consistent { OnOk result (IsConsistent U (P.state source.old) × IsConsistent U (Q.state destination.old)) }
+    ensures not_ahead { (w : World) → TakePart w U (P.state source.old) (Q.state destination.old) →
+        IsNever is_ahead result }
     ensures same { IsErrOf result SessionFault.SameReplica ↔ ((P.state source.old).id ≡ (Q.state destination.old).id) }
-    ensures source { P.state source.new ≡ P.state source.old }
-    ensures source_kept { P.kept source.new ≡ P.kept source.old }
-    ensures source_came { P.came source.old source.new [] }
-    ensures state { Q.state destination.new ≡ Q.state destination.old }
-    ensures kept { Q.kept destination.new ≡ Q.kept destination.old }
-    ensures came { Q.came destination.old destination.new [] }
-    ensures cause { HasCauses (P.faults source.old) (P.faults source.new) (Q.faults destination.old) (Q.faults destination.new) result }
+    ensures source { Rests P.state P.kept P.settled P.came source.old source.new }
+    ensures destination { Rests Q.state Q.kept Q.settled Q.came destination.old destination.new }
+    ensures source_cause { HasCause blames_source (P.faults source.old) (P.faults source.new) result }
+    ensures destination_cause { HasCause blames_destination (Q.faults destination.old)
+        (Q.faults destination.new) result }
 {
     if source.id() == destination.id() {
         return Err(SessionFault::SameReplica);
@@ -40,7 +49,7 @@ pub(crate) fn refuse<const U: usize, P: Provider<U>, Q: Provider<U>>(
         return Err(SessionFault::Ahead { tick, clock });
     }
     match mode {
-        Mode::Normal => Ok(()),
+        Mode::Normal => Ok(Mode::Normal),
         Mode::Recover => Err(SessionFault::NotBuilt),
     }
 }
@@ -52,34 +61,26 @@ fn bearing<const U: usize, P: Provider<U>, Q: Provider<U>>(
     source: &mut P,
     destination: &mut Q,
 ) -> Result<(u64, u64, Mode), SessionFault>
-    ensures tick { IfOk result (λ b. b.0 ≡ most_known (Q.state destination.old).id (laid_known U (P.state source.old)) (P.state source.old).forgotten) }
+    ensures tick { let from = P.state source.old in
+        IfOk result (λ b. b.0 ≡ most_known (Q.state destination.old).id (laid_known U from) from.forgotten) }
     ensures clock { IfOk result (λ b. b.1 ≡ (Q.state destination.old).clock) }
-    ensures mode { IfOk result (λ b. b.2 ≡ mode_of U (P.state source.old).forgotten (laid_known U (Q.state destination.old))) }
-    ensures orderly { OnOk result (IsOrderly U (P.state source.old) × IsOrderly U (Q.state destination.old)) }
-    ensures fault_alone { IsNoRefusal result }
-    ensures source { P.state source.new ≡ P.state source.old }
-    ensures source_kept { P.kept source.new ≡ P.kept source.old }
-    ensures source_came { P.came source.old source.new [] }
-    ensures state { Q.state destination.new ≡ Q.state destination.old }
-    ensures kept { Q.kept destination.new ≡ Q.kept destination.old }
-    ensures came { Q.came destination.old destination.new [] }
-    ensures cause { HasCauses (P.faults source.old) (P.faults source.new) (Q.faults destination.old) (Q.faults destination.new) result }
+    ensures mode { let known = laid_known U (Q.state destination.old) in
+        IfOk result (λ b. b.2 ≡ mode_of U (P.state source.old).forgotten known) }
+    ensures consistent { OnOk result (IsConsistent U (P.state source.old) × IsConsistent U (Q.state destination.old)) }
+    ensures no_refusal { IsNever is_refusal result }
+    ensures source { Rests P.state P.kept P.settled P.came source.old source.new }
+    ensures destination { Rests Q.state Q.kept Q.settled Q.came destination.old destination.new }
+    ensures source_cause { HasCause blames_source (P.faults source.old) (P.faults source.new) result }
+    ensures destination_cause { HasCause blames_destination (Q.faults destination.old)
+        (Q.faults destination.new) result }
 {
-    let from = source_head(alloc, source)?;
-    let to = destination_head(alloc, destination)?;
+    let from = head_of(alloc, source, Side::Source)?;
+    let to = head_of(alloc, destination, Side::Destination)?;
     Ok((
-        most(&from.knowledge, &from.forgotten, &to.id),
+        most_known(&from.knowledge, &from.forgotten, &to.id),
         to.clock,
         mode(&from.forgotten, &to.knowledge),
     ))
-}
-
-/// The greatest tick of the replica that is known or forgotten.
-fn most<const U: usize>(known: &Knowledge<U>, forgotten: &Forgotten, id: &ReplicaId) -> u64
-    requires { 1 ≤ U }
-    ensures { result ≡ most_known id.now known.now forgotten.now }
-{
-    known.most(id).max(forgotten.vector().get(id))
 }
 
 /// The mode of a session to a destination that knows this, from a source that has forgotten so.

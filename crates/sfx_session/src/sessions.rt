@@ -1,25 +1,27 @@
-ghost use Rattle.std.specs.Prelude.{◌≡◌, ◌≤◌, ◌↔◌, ℕ, [], Some, None, IfOk, IfSome, OnOk, OnErr, IsErrOf, IsOkUnless};
+ghost use Rattle.std.specs.Prelude.{◌≡◌, ◌≤◌, ◌↔◌, ◌<◌, None, IfOk, OnOk, OnErr, IsErrOf, IsOkUnless};
+ghost use Rattle.sfx_apply.specs.Rules.{LeavesConflicts};
 ghost use Rattle.sfx_model.specs.declared.mode.Mode.TheVariants.{Normal};
-ghost use Rattle.sfx_model.specs.declared.session_end.SessionEnd.TheVariants.{Done};
 ghost use Rattle.sfx_model.specs.Acting.{DeedsActIn, TakePart};
 ghost use Rattle.sfx_model.specs.Batch.{batch_from};
 ghost use Rattle.sfx_model.specs.Deeds.{session_deeds};
 ghost use Rattle.sfx_model.specs.Knowing.{ahead_of, laid_known};
 ghost use Rattle.sfx_model.specs.Moments.{committed, stops};
-ghost use Rattle.sfx_model.specs.Rules.{skip_rules};
-ghost use Rattle.sfx_model.specs.Session.{applied, applied_batch};
-ghost use Rattle.sfx_model.specs.Sets.{Has};
+ghost use Rattle.sfx_model.specs.Session.{applied, applied_batch, session_of};
 ghost use Rattle.sfx_model.specs.World.{World};
 ghost use Rattle.sfx_outside.specs.Fault.{HasRisen};
-ghost use Rattle.sfx_provider.specs.Course.{CameInPart};
+ghost use Rattle.sfx_provider.specs.Answer.{IsNever, OnFault, Refuses};
+ghost use Rattle.sfx_provider.specs.Fault.{HasCause};
+ghost use Rattle.sfx_provider.specs.Leaves.{Arrives, BreaksOff, Rests};
 ghost use Rattle.sfx_segments.specs.Segments.{IsPlace};
-ghost use Rattle.sfx_session.specs.Fault.{HasCauses};
-ghost use Rattle.sfx_session.specs.Refusals.{IsNoRefusal, IsNotAhead, OnRefusal, Refuses, refusal_of};
-ghost use Rattle.sfx_session.specs.Report.{report_of, skipping};
-ghost use Rattle.sfx_session.specs.Travel.{arrival, due_batch, due_outcome, travelled};
+ghost use Rattle.sfx_session.specs.Fault.{blames_destination, blames_source, is_ahead, is_refusal};
+ghost use Rattle.sfx_session.specs.Refusals.{refusal_of};
+ghost use Rattle.sfx_session.specs.Report.{AreLimits, report_of};
+ghost use Rattle.sfx_session.specs.Travel.{due_outcome, next_arrival, next_travel};
+ghost use Rattle.sfx_settle.specs.Rules.{rules_view};
 
-use crate::heads::destination_head;
+use crate::heads::head_of;
 use crate::refusal::refuse;
+use crate::side::Side;
 use crate::travel::Travel;
 use crate::{Report, SessionFault};
 use sfx_apply::{Applied, ApplyFault, apply_batch};
@@ -27,12 +29,13 @@ use sfx_batch::{Batch, BatchFault, make_batch};
 use sfx_ids::Cut;
 use sfx_model::{Mode, SessionEnd};
 use sfx_provider::Provider;
+use sfx_settle::{Merger, Rules};
 use std::alloc::Global;
 
 /// Brings to the destination what the source knows and it does not: batches of at most `size` changes are
-/// made of the source and applied one after another, until no change is left. A conflict and a clash of
-/// names is left alone: the destination stays there as it is, and goes on not knowing the source's change.
-/// Entries are committed in groups of `group`. With a `cut` the session ends after so many entries.
+/// made of the source and applied by the rules one after another, until no change is left. A conflict and a
+/// clash of names is left alone: the destination stays there as it is, and goes on not knowing the source's
+/// change. Entries are committed in groups of `group`. With a `cut` the session ends after so many entries.
 ///
 /// The source stays as it is, whatever is answered.
 ///
@@ -47,85 +50,112 @@ use std::alloc::Global;
 /// has forgotten deletions that the destination does not know. `Source` and `Destination`, each only where
 /// that provider's count of faults rose, and `Memory`: the commits that were made stand then, and the
 /// destination's kept state is one that such a session passes.
-pub fn session<const U: usize, P: Provider<U>, Q: Provider<U>>(
+pub fn session<const U: usize, P: Provider<U>, Q: Provider<U>, M: Merger>(
     alloc: Global,
     source: &mut P,
     destination: &mut Q,
+    rules: &Rules<M>,
     size: usize,
     group: u64,
     cut: Option<u64>,
 ) -> Result<Report<U>, SessionFault>
-    requires told { IfSome (Q.kept destination.old) (λ k. k ≡ Q.state destination.old) }
-    requires size { 1 ≤ size }
-    requires group { 1 ≤ group }
-    requires cut { IfSome cut (λ n. 1 ≤ n) }
-    ensures report { IfOk result (λ r. r ≡ report_of U (P.state source.old) (Q.state destination.old) size cut) }
-    ensures state { OnOk result (Q.state destination.new ≡ (skipping U (P.state source.old) (Q.state destination.old) size cut).course.member) }
-    ensures told { OnOk result (IfSome (Q.kept destination.new) (λ k. k ≡ Q.state destination.new)) }
-    ensures came { OnOk result (Q.came destination.old destination.new (committed group (skipping U (P.state source.old) (Q.state destination.old) size cut).course.moments)) }
-    ensures fault { OnErr result (CameInPart Q.came Q.broke destination.old destination.new (committed group (skipping U (P.state source.old) (Q.state destination.old) size cut).course.moments)) }
-    ensures kept { OnErr result (IfSome (Q.kept destination.new) (λ k. Has k (stops group (Q.state destination.old) (skipping U (P.state source.old) (Q.state destination.old) size cut).course.moments))) }
-    ensures source { P.state source.new ≡ P.state source.old }
-    ensures source_kept { P.kept source.new ≡ P.kept source.old }
-    ensures source_came { P.came source.old source.new [] }
-    ensures cause { HasCauses (P.faults source.old) (P.faults source.new) (Q.faults destination.old) (Q.faults destination.new) result }
+    requires settled { Q.settled destination.old }
+    requires limits { AreLimits size group cut }
+    requires skip { LeavesConflicts (rules_view M.meaning rules.now) }
+    ensures report { let r = rules_view M.meaning rules.now in
+        IfOk result (λ report. report ≡ report_of U (P.state source.old) (Q.state destination.old) r size cut) }
+    ensures arrives { let r = rules_view M.meaning rules.now in
+        let whole = (session_of U (P.state source.old) (Q.state destination.old) r size cut).course in
+        OnOk result (Arrives Q.state Q.kept Q.settled Q.came destination.old destination.new
+        (committed group whole.moments) whole.member) }
+    ensures breaks_off { let r = rules_view M.meaning rules.now in
+        let whole = (session_of U (P.state source.old) (Q.state destination.old) r size cut).course in
+        OnErr result (BreaksOff Q.kept Q.came Q.broke destination.old destination.new
+        (committed group whole.moments) (stops group (Q.state destination.old) whole.moments)) }
+    ensures done { let r = rules_view M.meaning rules.now in
+        let whole = session_of U (P.state source.old) (Q.state destination.old) r size None in
+        cut ≡ None → IfOk result (λ report. report.end ≡ whole.end) }
     ensures same { IsErrOf result SessionFault.SameReplica ↔ ((P.state source.old).id ≡ (Q.state destination.old).id) }
-    ensures refused { Refuses result (refusal_of U (P.state source.old) (Q.state destination.old)) }
-    ensures unchanged { OnRefusal result (Q.state destination.new ≡ Q.state destination.old) }
-    ensures unchanged_kept { OnRefusal result (Q.kept destination.new ≡ Q.kept destination.old) }
-    ensures unchanged_came { OnRefusal result (Q.came destination.old destination.new []) }
+    ensures refused { Refuses is_refusal result (refusal_of U (P.state source.old) (Q.state destination.old)) }
+    ensures unchanged { let rests = Rests Q.state Q.kept Q.settled Q.came destination.old destination.new in
+        OnFault is_refusal result rests }
     ensures complete { refusal_of U (P.state source.old) (Q.state destination.old) ≡ None →
-        ¬ HasRisen (P.faults source.old) (P.faults source.new) → ¬ HasRisen (Q.faults destination.old) (Q.faults destination.new) →
+        ¬ HasRisen (P.faults source.old) (P.faults source.new) →
+        ¬ HasRisen (Q.faults destination.old) (Q.faults destination.new) →
         IsOkUnless result SessionFault.Memory }
-    ensures done { cut ≡ None → IfOk result (λ r. r.end ≡ Done) }
-    ensures acts { OnOk result ((w : World) → TakePart w U (P.state source.old) (Q.state destination.old) →
-        DeedsActIn w (session_deeds U (P.state source.old) (Q.state destination.old) skip_rules size cut)
-        (P.state source.old) (Q.state destination.old).id (Q.state destination.new)) }
-    ensures not_ahead { (w : World) → TakePart w U (P.state source.old) (Q.state destination.old) → IsNotAhead result }
+    ensures source { Rests P.state P.kept P.settled P.came source.old source.new }
+    ensures source_cause { HasCause blames_source (P.faults source.old) (P.faults source.new) result }
+    ensures destination_cause { HasCause blames_destination (Q.faults destination.old)
+        (Q.faults destination.new) result }
+    ensures acts { let to = Q.state destination.old in
+        let deeds = session_deeds U (P.state source.old) to (rules_view M.meaning rules.now) size cut in
+        OnOk result ((w : World) → TakePart w U (P.state source.old) to →
+        DeedsActIn w deeds (P.state source.old) to.id (Q.state destination.new)) }
+    ensures not_ahead { (w : World) → TakePart w U (P.state source.old) (Q.state destination.old) →
+        IsNever is_ahead result }
 {
-    refuse(alloc, source, destination)?;
+    let mode = refuse(alloc, source, destination)?;
     let mut travel = Travel::new(alloc, cut);
     'batches: loop {
-        match one_batch(alloc, source, destination, &mut travel, size, group)? {
-            Some(end) => return Ok(travel.report(Mode::Normal, end)),
+        match one_batch(
+            alloc,
+            source,
+            destination,
+            &mut travel,
+            mode,
+            rules,
+            size,
+            group,
+        )? {
+            Some(end) => return Ok(travel.report(mode, end)),
             None => {}
         }
     }
 }
 
 /// Makes the batch that is due and applies it; tells how the session ends with it, if it does.
-fn one_batch<const U: usize, P: Provider<U>, Q: Provider<U>>(
+fn one_batch<const U: usize, P: Provider<U>, Q: Provider<U>, M: Merger>(
     alloc: Global,
     source: &mut P,
     destination: &mut Q,
     travel: &mut Travel<U>,
+    mode: Mode,
+    rules: &Rules<M>,
     size: usize,
     group: u64,
 ) -> Result<Option<SessionEnd>, SessionFault>
-    requires told { IfSome (Q.kept destination.old) (λ k. k ≡ Q.state destination.old) }
+    requires settled { Q.settled destination.old }
     requires size { 1 ≤ size }
     requires group { 1 ≤ group }
+    requires normal { mode ≡ Normal }
+    requires skip { LeavesConflicts (rules_view M.meaning rules.now) }
     requires place { IsPlace travel.old.from }
-    requires ahead { ahead_of (Q.state destination.old) (laid_known U (P.state source.old)) (P.state source.old).forgotten ≡ None }
-    ensures end { let o = due_outcome U (P.state source.old) Normal size (Q.state destination.old) travel.old in
-        IfOk result (λ end. end ≡ arrival (due_batch U (P.state source.old) Normal size (Q.state destination.old) travel.old) (applied_batch o) travel.old) }
-    ensures travel { let o = due_outcome U (P.state source.old) Normal size (Q.state destination.old) travel.old in
-        OnOk result (travel.new ≡ travelled (due_batch U (P.state source.old) Normal size (Q.state destination.old) travel.old) (applied_batch o) travel.old) }
-    ensures state { OnOk result (Q.state destination.new ≡ (due_outcome U (P.state source.old) Normal size (Q.state destination.old) travel.old).member) }
-    ensures ahead { OnOk result (ahead_of (Q.state destination.new) (laid_known U (P.state source.old)) (P.state source.old).forgotten ≡ None) }
-    ensures told { OnOk result (IfSome (Q.kept destination.new) (λ k. k ≡ Q.state destination.new)) }
-    ensures came { OnOk result (Q.came destination.old destination.new (committed group (due_outcome U (P.state source.old) Normal size (Q.state destination.old) travel.old).moments)) }
-    ensures fault { OnErr result (CameInPart Q.came Q.broke destination.old destination.new (committed group (due_outcome U (P.state source.old) Normal size (Q.state destination.old) travel.old).moments)) }
-    ensures kept { OnErr result (IfSome (Q.kept destination.new) (λ k. Has k (stops group (Q.state destination.old) (due_outcome U (P.state source.old) Normal size (Q.state destination.old) travel.old).moments))) }
-    ensures source { P.state source.new ≡ P.state source.old }
-    ensures source_kept { P.kept source.new ≡ P.kept source.old }
-    ensures source_came { P.came source.old source.new [] }
-    ensures fault_alone { IsNoRefusal result }
-    ensures cause { HasCauses (P.faults source.old) (P.faults source.new) (Q.faults destination.old) (Q.faults destination.new) result }
+    requires ahead { let from = P.state source.old in
+        ahead_of (Q.state destination.old) (laid_known U from) from.forgotten ≡ None }
+    ensures end { let r = rules_view M.meaning rules.now in
+        IfOk result (λ end. end ≡ next_arrival U (P.state source.old) mode r size
+        (Q.state destination.old) travel.old) }
+    ensures travel { let r = rules_view M.meaning rules.now in
+        OnOk result (travel.new ≡ next_travel U (P.state source.old) mode r size (Q.state destination.old) travel.old) }
+    ensures arrives { let r = rules_view M.meaning rules.now in
+        let o = due_outcome U (P.state source.old) mode r size (Q.state destination.old) travel.old in
+        OnOk result (Arrives Q.state Q.kept Q.settled Q.came destination.old destination.new
+        (committed group o.moments) o.member) }
+    ensures breaks_off { let r = rules_view M.meaning rules.now in
+        let o = due_outcome U (P.state source.old) mode r size (Q.state destination.old) travel.old in
+        OnErr result (BreaksOff Q.kept Q.came Q.broke destination.old destination.new
+        (committed group o.moments) (stops group (Q.state destination.old) o.moments)) }
+    ensures ahead { let from = P.state source.old in
+        OnOk result (ahead_of (Q.state destination.new) (laid_known U from) from.forgotten ≡ None) }
+    ensures no_refusal { IsNever is_refusal result }
+    ensures source { Rests P.state P.kept P.settled P.came source.old source.new }
+    ensures source_cause { HasCause blames_source (P.faults source.old) (P.faults source.new) result }
+    ensures destination_cause { HasCause blames_destination (Q.faults destination.old)
+        (Q.faults destination.new) result }
 {
     let from = travel.from();
-    let batch = next_batch(alloc, source, destination, &from, size)?;
-    let applied = apply(alloc, destination, &batch, group, travel.budget())?;
+    let batch = next_batch(alloc, source, destination, mode, &from, size)?;
+    let applied = apply(alloc, destination, &batch, rules, group, travel.budget())?;
     Ok(travel.add(batch, applied)?)
 }
 
@@ -135,26 +165,26 @@ fn next_batch<const U: usize, P: Provider<U>, Q: Provider<U>>(
     alloc: Global,
     source: &mut P,
     destination: &mut Q,
+    mode: Mode,
     from: &Cut,
     size: usize,
 ) -> Result<Batch<U>, SessionFault>
     requires size { 1 ≤ size }
     requires place { IsPlace from.now }
-    ensures value { IfOk result (λ b. b ≡ batch_from U (P.state source.old) Normal size (laid_known U (Q.state destination.old)) from.now) }
-    ensures mode { IfOk result (λ b. b.mode ≡ Normal) }
+    ensures value { let known = laid_known U (Q.state destination.old) in
+        IfOk result (λ b. b ≡ batch_from U (P.state source.old) mode size known from.now) }
+    ensures mode { IfOk result (λ b. b.mode ≡ mode) }
     ensures made_with { IfOk result (λ b. b.made_with ≡ laid_known U (P.state source.old)) }
     ensures forgotten { IfOk result (λ b. b.forgotten ≡ (P.state source.old).forgotten) }
-    ensures source { P.state source.new ≡ P.state source.old }
-    ensures source_kept { P.kept source.new ≡ P.kept source.old }
-    ensures source_came { P.came source.old source.new [] }
-    ensures state { Q.state destination.new ≡ Q.state destination.old }
-    ensures kept { Q.kept destination.new ≡ Q.kept destination.old }
-    ensures came { Q.came destination.old destination.new [] }
-    ensures fault_alone { IsNoRefusal result }
-    ensures cause { HasCauses (P.faults source.old) (P.faults source.new) (Q.faults destination.old) (Q.faults destination.new) result }
+    ensures no_refusal { IsNever is_refusal result }
+    ensures source { Rests P.state P.kept P.settled P.came source.old source.new }
+    ensures destination { Rests Q.state Q.kept Q.settled Q.came destination.old destination.new }
+    ensures source_cause { HasCause blames_source (P.faults source.old) (P.faults source.new) result }
+    ensures destination_cause { HasCause blames_destination (Q.faults destination.old)
+        (Q.faults destination.new) result }
 {
-    let head = destination_head(alloc, destination)?;
-    match make_batch(alloc, source, &head.knowledge, from, size, Mode::Normal) {
+    let head = head_of(alloc, destination, Side::Destination)?;
+    match make_batch(alloc, source, &head.knowledge, from, size, mode) {
         Ok(batch) => Ok(batch),
         Err(BatchFault::Provider) => Err(SessionFault::Source),
         Err(BatchFault::Memory) => Err(SessionFault::Memory),
@@ -162,27 +192,33 @@ fn next_batch<const U: usize, P: Provider<U>, Q: Provider<U>>(
 }
 
 /// Applies the batch, of which nothing is ahead of the destination.
-fn apply<const U: usize, Q: Provider<U>>(
+fn apply<const U: usize, Q: Provider<U>, M: Merger>(
     alloc: Global,
     destination: &mut Q,
     batch: &Batch<U>,
+    rules: &Rules<M>,
     group: u64,
     budget: Option<u64>,
 ) -> Result<Applied<U>, SessionFault>
-    requires told { IfSome (Q.kept destination.old) (λ k. k ≡ Q.state destination.old) }
+    requires settled { Q.settled destination.old }
     requires group { 1 ≤ group }
     requires normal { batch.now.mode ≡ Normal }
+    requires skip { LeavesConflicts (rules_view M.meaning rules.now) }
     requires ahead { ahead_of (Q.state destination.old) batch.now.made_with batch.now.forgotten ≡ None }
-    ensures report { IfOk result (λ a. a ≡ applied_batch (applied U batch.now skip_rules budget (Q.state destination.old))) }
-    ensures state { OnOk result (Q.state destination.new ≡ (applied U batch.now skip_rules budget (Q.state destination.old)).member) }
-    ensures told { OnOk result (IfSome (Q.kept destination.new) (λ k. k ≡ Q.state destination.new)) }
-    ensures came { OnOk result (Q.came destination.old destination.new (committed group (applied U batch.now skip_rules budget (Q.state destination.old)).moments)) }
-    ensures fault { OnErr result (CameInPart Q.came Q.broke destination.old destination.new (committed group (applied U batch.now skip_rules budget (Q.state destination.old)).moments)) }
-    ensures kept { OnErr result (IfSome (Q.kept destination.new) (λ k. Has k (stops group (Q.state destination.old) (applied U batch.now skip_rules budget (Q.state destination.old)).moments))) }
-    ensures fault_alone { IsNoRefusal result }
-    ensures cause { HasCauses 0 0 (Q.faults destination.old) (Q.faults destination.new) result }
+    ensures applied { let o = applied U batch.now (rules_view M.meaning rules.now) budget (Q.state destination.old) in
+        IfOk result (λ a. a ≡ applied_batch o) }
+    ensures arrives { let o = applied U batch.now (rules_view M.meaning rules.now) budget (Q.state destination.old) in
+        OnOk result (Arrives Q.state Q.kept Q.settled Q.came destination.old destination.new
+        (committed group o.moments) o.member) }
+    ensures breaks_off { let o = applied U batch.now (rules_view M.meaning rules.now) budget
+        (Q.state destination.old) in
+        OnErr result (BreaksOff Q.kept Q.came Q.broke destination.old destination.new
+        (committed group o.moments) (stops group (Q.state destination.old) o.moments)) }
+    ensures no_refusal { IsNever is_refusal result }
+    ensures spares_source { IsNever blames_source result }
+    ensures cause { HasCause blames_destination (Q.faults destination.old) (Q.faults destination.new) result }
 {
-    match apply_batch(alloc, destination, batch, group, budget) {
+    match apply_batch(alloc, destination, batch, rules, group, budget) {
         Ok(applied) => Ok(applied),
         Err(ApplyFault::Ahead { tick, clock }) => Err(SessionFault::Ahead { tick, clock }),
         Err(ApplyFault::Provider) => Err(SessionFault::Destination),

@@ -3,7 +3,7 @@ ghost use Rattle.std.specs.Prelude.{◌≡◌, ◌≤◌};
 ghost use Rattle.sfx_model.specs.declared.mode.Mode.TheVariants.{Normal};
 
 use crate::fixtures::{
-    THREE, count_of, due, due_to_new, first_batch, item_of, known, learner, left, provider,
+    SKIP, THREE, count_of, due, due_to_new, first_batch, item_of, known, learner, left, provider,
     second_hand,
 };
 use sfx_apply::{ApplyFault, apply_batch};
@@ -26,7 +26,7 @@ fn apply(
     requires normal { batch.now.mode ≡ Normal }
     requires group { 1 ≤ group }
 {
-    let applied = apply_batch(alloc, destination, batch, group, budget)?;
+    let applied = apply_batch(alloc, destination, batch, &SKIP, group, budget)?;
     let skipped = count_of(&applied, EntryKind::Skipped);
     let told = (applied.entries.len(), skipped, applied.end);
     drop(applied);

@@ -11,8 +11,16 @@ use sfx_knowledge::Knowledge;
 use sfx_model::{EntryKind, Mode};
 use sfx_provider::Provider;
 use sfx_replica::{MemoryProvider, Replica};
+use sfx_settle::{ClashRule, Keep, Longer, Rules};
 use std::alloc::Global;
 use std::process::Abort;
+
+/// The rules that leave each conflict alone.
+pub const SKIP: Rules<Longer> = Rules {
+    keep: Keep::Skip,
+    clash: ClashRule::Skip,
+    merger: Longer,
+};
 
 /// The item that the replica with this id created as its version with this count.
 pub fn item_of(rt: &impl Abort, replica: u128, count: u64) -> ItemId {

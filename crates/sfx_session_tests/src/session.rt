@@ -1,7 +1,7 @@
 //! Sessions of small replicas.
 ghost use Rattle.std.specs.Prelude.{◌≤◌, IfSome};
 
-use crate::fixtures::{count_of, left, provider, second_hand};
+use crate::fixtures::{SKIP, count_of, left, provider, second_hand};
 use sfx_model::{EntryKind, SessionEnd};
 use sfx_replica::MemoryProvider;
 use sfx_session::{Report, SessionFault, session};
@@ -30,7 +30,7 @@ pub fn sync(
 ) -> Result<(SessionEnd, usize, usize), SessionFault>
     requires { IfSome cut (λ n. 1 ≤ n) }
 {
-    let report = session(alloc, from, to, 100, 5, cut)?;
+    let report = session(alloc, from, to, &SKIP, 100, 5, cut)?;
     let told = (report.end, report.steps.len(), taken(&report));
     drop(report);
     Ok(told)

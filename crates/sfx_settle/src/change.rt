@@ -34,7 +34,9 @@ pub fn classify<const U: usize>(
     forgotten: &Forgotten,
 ) -> Result<Class<U>, Memory>
     requires { 1 ≤ U }
-    ensures { IfOk result (λ class. class_view class ≡ class_of U known.now made_with.now forgotten.now (item_view change.now) (option_map (λ x. state_view x.now.state) local.entry)) }
+    ensures { IfOk result (λ class. class_view class ≡
+        class_of U known.now made_with.now forgotten.now (item_view change.now)
+        (option_map (λ x. state_view x.now.state) local.entry)) }
 {
     if !is_unseen(known, &change.id, change) {
         return Ok(Class::Known);
@@ -81,7 +83,9 @@ fn present_change<const U: usize>(
     local: &Item<U>,
     known: &Knowledge<U>,
 ) -> Result<Class<U>, Memory>
-    ensures { IfOk result (λ class. class_view class ≡ present_change U known.now made_with.now change.now.id (state_view change.now.state) (state_view local.now.state)) }
+    ensures { IfOk result (λ class. class_view class ≡
+        present_change U known.now made_with.now change.now.id (state_view change.now.state)
+        (state_view local.now.state)) }
 {
     match (&change.state, &local.state) {
         (State::Live(_), State::Live(_)) => {
@@ -93,7 +97,8 @@ fn present_change<const U: usize>(
 
 /// The class of a change as a whole.
 fn whole_change<const U: usize>(id: &ItemId, made_with: &Knowledge<U>, local: &Item<U>) -> Class<U>
-    ensures { class_view result ≡ whole_change U made_with.now (record { id = id.now; state = state_view local.now.state }) }
+    ensures { class_view result ≡ whole_change U made_with.now
+        (record { id = id.now; state = state_view local.now.state }) }
 {
     if is_unseen(made_with, id, local) {
         Class::WholeConflict
@@ -110,7 +115,9 @@ fn unit_classes<const U: usize>(
     local: &Item<U>,
     known: &Knowledge<U>,
 ) -> Result<UnitClasses<U>, Memory>
-    ensures { IfOk result (λ classes. classes ≡ each_unit U (unit_class known.now made_with.now change.now.id (state_view change.now.state) (state_view local.now.state))) }
+    ensures { IfOk result (λ classes. classes ≡
+        each_unit U (unit_class known.now made_with.now change.now.id (state_view change.now.state)
+        (state_view local.now.state))) }
 {
     let mut classes = Vec::with_capacity(alloc, U)?;
     for index in 0..U {
@@ -128,7 +135,8 @@ fn unit_class<const U: usize>(
     known: &Knowledge<U>,
     unit: UnitId<U>,
 ) -> UnitClass
-    ensures { result ≡ unit_class known.now made_with.now change.now.id (state_view change.now.state) (state_view local.now.state) unit.entry }
+    ensures { result ≡ unit_class known.now made_with.now change.now.id (state_view change.now.state)
+        (state_view local.now.state) unit.entry }
 {
     if !is_unseen_at(known, &change.id, change, unit) {
         UnitClass::Known

@@ -20,7 +20,8 @@ pub fn settle_units<const U: usize, M: Merger>(
     classes: &UnitClasses<U>,
     rules: &Rules<M>,
 ) -> Result<Draft<U>, Memory>
-    ensures { IfOk result (λ draft. draft ≡ units_draft U (rules_view M.meaning rules.now) classes.now change.now local.now) }
+    ensures { IfOk result (λ draft. draft ≡
+        units_draft U (rules_view M.meaning rules.now) classes.now change.now local.now) }
 {
     let marks = marks_of(alloc, classes, rules.keep)?;
     if all_left(&marks) {
@@ -81,7 +82,8 @@ fn values_of<const U: usize, M: Merger>(
     classes: &UnitClasses<U>,
     rules: &Rules<M>,
 ) -> Result<Vec<Value>, Memory>
-    ensures { IfOk result (λ values. values.items ≡ unit_values U (rules_view M.meaning rules.now) classes.now change.now local.now) }
+    ensures { IfOk result (λ values. values.items ≡
+        unit_values U (rules_view M.meaning rules.now) classes.now change.now local.now) }
 {
     let mut values = Vec::with_capacity(alloc, U)?;
     for index in 0..U {
@@ -103,7 +105,8 @@ fn value_of<M: Merger>(
     destination: &Value,
     rules: &Rules<M>,
 ) -> Result<Value, Memory>
-    ensures { IfOk result (λ value. value ≡ unit_value (rules_view M.meaning rules.now) unit class source.now destination.now) }
+    ensures { IfOk result (λ value. value ≡
+        unit_value (rules_view M.meaning rules.now) unit class source.now destination.now) }
 {
     match (class, rules.keep) {
         (UnitClass::Known, _) | (UnitClass::Concurrent, Keep::Destination | Keep::Skip) => {

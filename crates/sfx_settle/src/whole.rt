@@ -20,7 +20,9 @@ pub fn settle_whole<const U: usize>(
     local: Option<&Item<U>>,
     keep: Keep,
 ) -> Result<Draft<U>, Memory>
-    ensures { IfOk result (λ draft. draft ≡ whole_draft U keep (option_map (λ x. state_view x.now.state) change.entry) (option_map (λ x. state_view x.now.state) local.entry)) }
+    ensures { IfOk result (λ draft. draft ≡
+        whole_draft U keep (option_map (λ x. state_view x.now.state) change.entry)
+        (option_map (λ x. state_view x.now.state) local.entry)) }
 {
     match keep {
         Keep::Source => Draft::all(alloc, Mark::Stamped, values_of(alloc, change)?),
@@ -36,7 +38,9 @@ fn live_values<const U: usize>(
     change: Option<&Item<U>>,
     local: Option<&Item<U>>,
 ) -> Result<Option<Vec<Value>>, Memory>
-    ensures { IfOk result (λ values. option_map (λ v. v.items) values ≡ option_or (values_of (option_map (λ x. state_view x.now.state) change.entry)) (values_of (option_map (λ x. state_view x.now.state) local.entry))) }
+    ensures { IfOk result (λ values. option_map (λ v. v.items) values ≡
+        option_or (values_of (option_map (λ x. state_view x.now.state) change.entry))
+        (values_of (option_map (λ x. state_view x.now.state) local.entry))) }
 {
     match values_of(alloc, change)? {
         None => values_of(alloc, local),
@@ -52,7 +56,8 @@ pub fn values_of<const U: usize>(
     alloc: Global,
     item: Option<&Item<U>>,
 ) -> Result<Option<Vec<Value>>, Memory>
-    ensures { IfOk result (λ values. option_map (λ v. v.items) values ≡ values_of (option_map (λ x. state_view x.now.state) item.entry)) }
+    ensures { IfOk result (λ values. option_map (λ v. v.items) values ≡
+        values_of (option_map (λ x. state_view x.now.state) item.entry)) }
 {
     let Some(item) = item else {
         return Ok(None);

@@ -55,7 +55,8 @@ impl ClockVector {
     /// Raises the tick of the version's replica to the version's, where that is greater. The one error
     /// is want of memory.
     pub fn raise(&mut self, v: &Version) -> Result<(), Memory>
-        ensures ok { OnOk result (ChangesOnly self.old self.new v.now.replica (max (tick_of self.old v.now.replica) v.now.tick)) }
+        ensures ok { OnOk result (ChangesOnly self.old self.new v.now.replica
+            (max (tick_of self.old v.now.replica) v.now.tick)) }
         ensures err { OnErr result (self.new ≡ self.old) }
     {
         let tick = self.get(&v.replica);

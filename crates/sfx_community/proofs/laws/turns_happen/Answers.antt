@@ -1,5 +1,4 @@
-use Rattle.sfx_community.proofs.History.{turns_alone, turns_happen_lem, turns_orderly}
-use Rattle.sfx_community.proofs.NotAhead.{turns_not_ahead}
+use Rattle.sfx_community.proofs.History.{turns_alone, turns_happen_lem, turns_not_ahead, turns_orderly}
 use Rattle.sfx_community.proofs.laws.turns_happen.Goals as goal
 
 pub returns-clause-happen : goal.returns-clause-happen

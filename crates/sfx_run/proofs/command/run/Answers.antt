@@ -8,7 +8,8 @@ use Rattle.sfx_run.specs.declared.status.Status.TheVariants.{Memory, SinkFault, 
 use Rattle.sfx_community.specs.History.{AreNotAhead, HasHappened}
 use Rattle.sfx_run.specs.Run.{has_refusal, played, played_text}
 use Rattle.sfx_run.specs.Status.{IsAnswered}
-use Rattle.sfx_community.specs.Turn.{empty_community}
+use Rattle.sfx_community.specs.State.{community_of}
+use Rattle.sfx_community.specs.Turn.{empty_state}
 use Rattle.sfx_run.proofs.command.run.Goals as goal
 
 pub returns-clause-answered : goal.returns-clause-answered
@@ -31,7 +32,7 @@ returns-clause-done g c is =
 
 pub returns-clause-history : goal.returns-clause-history
 returns-clause-history g c is =
-    told_anyhow (λ s. (w : World) → WellFormed w → RepresentsWorld w empty_community → HasHappened w empty_community (played s)) _
+    told_anyhow (λ s. (w : World) → WellFormed w → RepresentsWorld w (community_of empty_state) → HasHappened w empty_state (played s)) _
     (λ s w ok rep. played_happens w s ok rep)
 
 pub returns-clause-not_ahead : goal.returns-clause-not_ahead

@@ -7,7 +7,7 @@ use Rattle.sfx_run.proofs.play.play.Given as goal
 
 abbrev pub invariant-lines : goal.invariant-lines
 invariant-lines g l = record {
-  so_far : SoFar (g.B.Sink.held l.fn.out) (g.B.Sink.held l.out) l.has_refusal (turns l.community (lines_left l.rest)) (played l.fn.script);
+  so_far : SoFar (g.B.Sink.held l.fn.out) (g.B.Sink.held l.out) l.has_refusal (turns l.state (lines_left l.rest)) (played l.fn.script);
   faults : g.B.Sink.faults l.fn.out ≤ g.B.Sink.faults l.out;
 }
 

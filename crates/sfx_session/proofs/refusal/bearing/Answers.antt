@@ -1,6 +1,7 @@
-use Rattle.std.proofs.Common.{le_refl, refl}
 use Rattle.std.proofs.lemmas.Result.{err_from_is_err_and}
-use Rattle.sfx_apply.proofs.Exits.{if_ok_never, ok_never}
+use Rattle.sfx_provider.proofs.Exits.{if_ok_never, ok_never}
+use Rattle.sfx_provider.proofs.LeavesLemmas.{rests_self}
+use Rattle.sfx_session.proofs.Sides.{source_spares_destination, destination_spares_source}
 use Rattle.sfx_session.proofs.refusal.bearing.Goals as goal
 
 pub returns-in_err-from : goal.returns-in_err-from
@@ -12,15 +13,12 @@ returns-in_err-from g c =
       tick = if_ok_never _ _ r is;
       clock = if_ok_never _ _ r is;
       mode = if_ok_never _ _ r is;
-      orderly = ok_never _ _ r is;
-      fault_alone = rw (exit.1, exit.2) failed.fault_alone;
-      source = failed.state;
-      source_kept = failed.kept;
-      source_came = failed.came;
-      state = refl;
-      kept = refl;
-      came = g.met.Q.Provider.came_self c.args.destination.now;
-      cause = rw (exit.1, exit.2) (failed.cause _ _ (le_refl _));
+      consistent = ok_never _ _ r is;
+      no_refusal = rw (exit.1, exit.2) failed.no_refusal;
+      source = failed.rests;
+      destination = rests_self g.met.Q.Provider.came_self c.args.destination.now;
+      source_cause = rw (exit.1, exit.2) failed.cause;
+      destination_cause = rw (exit.1, exit.2) (source_spares_destination (g.Q.Provider.faults c.args.destination.now) _ failed.fault);
     }
 
 pub returns-in_err-to : goal.returns-in_err-to
@@ -33,40 +31,10 @@ returns-in_err-to g c =
       tick = if_ok_never _ _ r is;
       clock = if_ok_never _ _ r is;
       mode = if_ok_never _ _ r is;
-      orderly = ok_never _ _ r is;
-      fault_alone = rw (exit.1, exit.2) failed.fault_alone;
-      source = read.state;
-      source_kept = read.kept;
-      source_came = read.came;
-      state = failed.state;
-      kept = failed.kept;
-      came = failed.came;
-      cause = rw (exit.1, exit.2) (failed.cause _ _ read.faults);
+      consistent = ok_never _ _ r is;
+      no_refusal = rw (exit.1, exit.2) failed.no_refusal;
+      source = read.rests;
+      destination = failed.rests;
+      source_cause = rw (exit.1, exit.2) (destination_spares_source (g.P.Provider.faults c.args.source.now) _ _ failed.fault read.cause);
+      destination_cause = rw (exit.1, exit.2) failed.cause;
     }
-
-pub returns-clause-orderly : goal.returns-clause-orderly
-returns-clause-orderly g c = (c.in_ok-from.ensures.orderly, c.in_ok-to.ensures.orderly)
-
-pub returns-clause-fault_alone : goal.returns-clause-fault_alone
-returns-clause-fault_alone g c = tt
-
-pub returns-clause-source : goal.returns-clause-source
-returns-clause-source g c = c.in_ok-from.ensures.state
-
-pub returns-clause-source_kept : goal.returns-clause-source_kept
-returns-clause-source_kept g c = c.in_ok-from.ensures.kept
-
-pub returns-clause-source_came : goal.returns-clause-source_came
-returns-clause-source_came g c = c.in_ok-from.ensures.came
-
-pub returns-clause-state : goal.returns-clause-state
-returns-clause-state g c = c.in_ok-to.ensures.state
-
-pub returns-clause-kept : goal.returns-clause-kept
-returns-clause-kept g c = c.in_ok-to.ensures.kept
-
-pub returns-clause-came : goal.returns-clause-came
-returns-clause-came g c = c.in_ok-to.ensures.came
-
-pub returns-clause-cause : goal.returns-clause-cause
-returns-clause-cause g c = (c.in_ok-from.ensures.faults, c.in_ok-to.ensures.faults)

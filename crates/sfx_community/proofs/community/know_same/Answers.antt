@@ -1,9 +1,0 @@
-use Rattle.std.proofs.Common.{◌≡◌, IfOk, subst}
-use Rattle.sfx_knowledge.specs.Knowledge.{Known}
-use Rattle.sfx_community.specs.Comparing.{same_segments}
-use Rattle.sfx_model.specs.Knowing.{laid_known}
-use Rattle.sfx_community.proofs.community.know_same.Goals as goal
-
-pub returns : goal.returns
-returns c =
-    subst (λ (x : Known). IfOk c.is_all_known.result (λ same. same ≡ same_segments x (laid_known 2 c.args.other.now))) c.in_ok-knowledge.ensures.list c.is_all_known.ensures
