@@ -4,4 +4,4 @@ pub mod Faults
 pub mod Name
 pub mod Renamed
 pub mod Row
-pub mod State
+pub mod Item

@@ -3,6 +3,7 @@ ghost use Rattle.std.specs.Prelude.{◌≡◌, ◌↔◌, IsTrue, IfOk};
 use crate::State;
 use sfx_ids::{ItemId, Memory, UnitId, Version};
 use std::alloc::Global;
+use std::marker::Model;
 
 /// An item that a replica holds, live or as a tombstone.
 #[derive(Drop)]
@@ -11,8 +12,16 @@ pub struct Item<const U: usize> {
     pub state: State<U>,
 }
 
+impl<const U: usize> Model for Item<U> {
+    ghost use Rattle.sfx_item.specs.Item.{MemberItem, state_view};
+
+    ghost Value = { MemberItem };
+
+    ghost view = { λ i. record { id = i.id; state = state_view i.state } };
+}
+
 impl<const U: usize> Item<U> {
-    ghost use Rattle.sfx_item.specs.State.{version_at};
+    ghost use Rattle.sfx_item.specs.Item.{version_at};
 
     /// The version of a unit; of a tombstone its one version.
     pub fn version(&self, unit: UnitId<U>) -> Version

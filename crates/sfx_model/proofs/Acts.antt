@@ -13,7 +13,8 @@ use Rattle.sfx_item.specs.declared.cell.Cell.{Cell}
 use Rattle.sfx_model.specs.Sets.{Has}
 use Rattle.sfx_model.specs.World.{Content, Written, Deleted, World, Site, WellFormed, IsLiveHolding, holding}
 use Rattle.sfx_model.specs.Events.{same_item, Make, site_of, Legal, MakeLegal, IsFresh}
-use Rattle.sfx_model.specs.Members.{Shown, Member, MemberItem, ItemState, Live, Dead, Represents, ItemRepresents, AreRising, shown, state_of}
+use Rattle.sfx_item.specs.Item.{MemberItem, ItemState, Live, Dead}
+use Rattle.sfx_model.specs.Members.{Shown, Member, Represents, ItemRepresents, AreRising, shown, state_of}
 use Rattle.sfx_model.specs.Results.{KeepsOthers, EditResult, StateResult, DeadNow, LiveNow, CellResult, CellsResult, mark_of, cell_at}
 use Rattle.sfx_model.specs.Replica.{RepresentsReplica, ActsIn}
 use Rattle.sfx_model.specs.States.{Rises, with_item, with_state, next_created, cells_with, KnowsOthersAlike, next_version, next_item, cells_at, created_contents, edited_contents, deleted_contents}

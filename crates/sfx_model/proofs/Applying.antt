@@ -23,7 +23,8 @@ use Rattle.sfx_model.specs.Deeds.{marks_in, version_behind, other_contents, name
 use Rattle.sfx_model.specs.Draft.{Draft}
 use Rattle.sfx_model.specs.Entry.{is_stamped, Changing, clock_after, state_after, left_from, forgets_by, renamed_state, other_state, change_other, change_others}
 use Rattle.sfx_model.specs.Knowing.{stored_known}
-use Rattle.sfx_model.specs.Members.{Member, ItemState, Live, Dead, AreRising, Represents, shown, state_of}
+use Rattle.sfx_item.specs.Item.{ItemState, Live, Dead}
+use Rattle.sfx_model.specs.Members.{Member, AreRising, Represents, shown, state_of}
 use Rattle.sfx_model.specs.Putting.{with_state_of}
 use Rattle.sfx_model.specs.Replica.{RepresentsReplica, ActsIn}
 use Rattle.sfx_model.specs.Results.{EntryResult, StateResult}

@@ -38,7 +38,8 @@ use Rattle.sfx_model.specs.Deeds.{version_behind, name_given, changed_first, tas
 use Rattle.sfx_model.specs.Draft.{values_of, absent_draft, is_left}
 use Rattle.sfx_model.specs.Entry.{Task, Unlisted, Change, Entry, Changing, task_item, task_seen, task_draft, task_plan, unlisted_class, is_stamped, clock_after, lacks, state_after, left_from, other_state, change_other, change_others, changed_by, after_task, entry_of}
 use Rattle.sfx_model.specs.Knowing.{laid_known}
-use Rattle.sfx_model.specs.Members.{Member, ItemState, Live, Dead, Represents, ItemRepresents, shown, state_of, vector_at}
+use Rattle.sfx_item.specs.Item.{ItemState, Live, Dead}
+use Rattle.sfx_model.specs.Members.{Member, Represents, ItemRepresents, shown, state_of, vector_at}
 use Rattle.sfx_model.specs.Replica.{RepresentsReplica}
 use Rattle.sfx_model.specs.Rules.{Rules}
 use Rattle.sfx_model.specs.Session.{Progress, is_spent, stop_before, with_entry, lefts, after_range, stop_or, is_more, go}

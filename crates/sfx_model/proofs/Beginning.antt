@@ -22,7 +22,8 @@ use Rattle.sfx_model.specs.Batch.{Batch, due, due_end, ids_in, batch_from}
 use Rattle.sfx_model.specs.Class.{is_forgotten_within, absent_class_of}
 use Rattle.sfx_model.specs.Entry.{Unlisted, Change}
 use Rattle.sfx_model.specs.Knowing.{laid_known}
-use Rattle.sfx_model.specs.Members.{Member, MemberItem, ItemState, ItemRepresents, shown, state_of, vector_at}
+use Rattle.sfx_item.specs.Item.{MemberItem, ItemState}
+use Rattle.sfx_model.specs.Members.{Member, ItemRepresents, shown, state_of, vector_at}
 use Rattle.sfx_model.specs.Readings.{knows_version, is_unseen}
 use Rattle.sfx_model.specs.Session.{is_among, is_kept, is_unlisted, unlisted, is_live_state, tasks_of}
 use Rattle.sfx_model.specs.Snapshots.{Meets, AreWithin}

@@ -12,7 +12,8 @@ use Rattle.sfx_model.specs.declared.session_end.SessionEnd.{SessionEnd}
 use Rattle.sfx_model.specs.declared.session_end.SessionEnd.TheVariants.{Done, Cut as CutShort}
 use Rattle.sfx_model.specs.declared.mode.Mode.{Mode}
 use Rattle.sfx_model.specs.Sets.{Has}
-use Rattle.sfx_model.specs.Members.{MemberItem, Member}
+use Rattle.sfx_item.specs.Item.{MemberItem}
+use Rattle.sfx_model.specs.Members.{Member}
 use Rattle.sfx_model.specs.Readings.{items_from, unseen, is_unseen}
 use Rattle.sfx_model.specs.Batch.{Batch, batch_from, due, due_end, place_behind}
 use Rattle.sfx_model.specs.Knowing.{laid_known}

@@ -12,7 +12,7 @@ use Rattle.sfx_model.specs.declared.mark.Mark.TheVariants.{Stays, Stamped}
 use Rattle.sfx_model.specs.World.{World, Site, Snapshot}
 use Rattle.sfx_model.specs.Clashes.{clash_draft, with_name, plan_among, plan_named, drafted_name, plan_of}
 use Rattle.sfx_model.specs.Draft.{Draft}
-use Rattle.sfx_model.specs.Members.{ItemState, MemberItem}
+use Rattle.sfx_item.specs.Item.{ItemState, MemberItem}
 use Rattle.sfx_model.specs.Readings.{clashing_with}
 use Rattle.sfx_model.specs.NewName.{new_name}
 use Rattle.sfx_model.specs.Results.{cell_at}

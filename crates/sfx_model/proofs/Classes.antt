@@ -9,8 +9,8 @@ use Rattle.sfx_ids.specs.ItemId.{creation_of}
 use Rattle.sfx_model.specs.Sets.{Has, IsPart}
 use Rattle.sfx_model.specs.World.{World, Site, Snapshot, WellFormed, IsSound, IsSoundItem, IsClosed, IsLatest, IsContained, Made, holding}
 use Rattle.sfx_model.specs.Events.{IsFresh, TakeLegal, StampLegal, DropLegal, IsKnownHere}
-use Rattle.sfx_model.specs.Headline.{version_at}
-use Rattle.sfx_model.specs.Members.{Shown, ItemState, Live, Dead, Represents, ItemRepresents, state_of}
+use Rattle.sfx_item.specs.Item.{version_at, ItemState, Live, Dead}
+use Rattle.sfx_model.specs.Members.{Shown, Represents, ItemRepresents, state_of}
 use Rattle.sfx_model.specs.Snapshots.{Meets, HasContained, AreWithin}
 use Rattle.sfx_model.proofs.Frame.{above}
 use Rattle.sfx_model.proofs.Order.{before_known}

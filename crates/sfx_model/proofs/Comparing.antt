@@ -14,9 +14,9 @@ use Rattle.sfx_knowledge.proofs.Making.{ticks-with_own, IsKnowledge-with_own}
 use Rattle.sfx_model.specs.World.{Record, Holding, IsContained}
 use Rattle.sfx_model.specs.Acting.{IsOrderly}
 use Rattle.sfx_model.specs.Class.{is_forgotten_within}
-use Rattle.sfx_model.specs.Headline.{version_at}
+use Rattle.sfx_item.specs.Item.{version_at, MemberItem, ItemState, Live, Dead}
 use Rattle.sfx_model.specs.Knowing.{laid_known}
-use Rattle.sfx_model.specs.Members.{Member, MemberItem, ItemState, Live, Dead, ItemRepresents, vector_at}
+use Rattle.sfx_model.specs.Members.{Member, ItemRepresents, vector_at}
 use Rattle.sfx_model.specs.Readings.{knows_version, is_unseen_at, is_unseen}
 use Rattle.sfx_model.specs.Snapshots.{HasContained, AreWithin}
 use Rattle.sfx_model.proofs.Headline.{cell_there}

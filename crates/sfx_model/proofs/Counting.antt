@@ -13,7 +13,8 @@ use Rattle.sfx_knowledge.proofs.Known.{AreClocks-clocks_at}
 use Rattle.sfx_model.specs.Sets.{Has}
 use Rattle.sfx_model.specs.World.{World, Site, Snapshot, WellFormed, IsSoundItem, Made, holding}
 use Rattle.sfx_model.specs.Acting.{IsOrderly}
-use Rattle.sfx_model.specs.Members.{Member, MemberItem, ItemState, Live, Dead, AreRising, IsIdBelow, Represents, ItemRepresents, shown, state_of, vector_at}
+use Rattle.sfx_item.specs.Item.{MemberItem, ItemState, Live, Dead}
+use Rattle.sfx_model.specs.Members.{Member, AreRising, IsIdBelow, Represents, ItemRepresents, shown, state_of, vector_at}
 use Rattle.sfx_model.specs.Putting.{with_state_of}
 use Rattle.sfx_model.specs.NewName.{new_name}
 use Rattle.sfx_model.specs.Snapshots.{Carried}

@@ -17,7 +17,8 @@ use Rattle.sfx_model.specs.declared.clash_rule.ClashRule.TheVariants.{Skip as Sk
 use Rattle.sfx_model.specs.declared.keep.Keep.TheVariants.{Skip}
 use Rattle.sfx_model.specs.Events.{AllLegal, Join, Units, after}
 use Rattle.sfx_model.specs.Headline.{HaveEqualKnowledge}
-use Rattle.sfx_model.specs.Members.{Community, ItemState, MemberItem, NamedMember, AreRising, RepresentsWorld, shown, vector_at}
+use Rattle.sfx_item.specs.Item.{ItemState, MemberItem}
+use Rattle.sfx_model.specs.Members.{Community, NamedMember, AreRising, RepresentsWorld, shown, vector_at}
 use Rattle.sfx_model.specs.Readings.{clashing_with}
 use Rattle.sfx_model.specs.SessionExamples.{alone, created_of, five, item_of, new, rules_of}
 use Rattle.sfx_model.specs.Sets.{Has}

@@ -17,7 +17,8 @@ use Rattle.sfx_model.specs.Events.{Stamped as Stamps, Left as Leaves, Gone as Dr
 use Rattle.sfx_model.specs.Deeds.{content_in, mark_with, marks_in}
 use Rattle.sfx_model.specs.Draft.{Draft, cells_of, is_left}
 use Rattle.sfx_model.specs.Entry.{is_stamped, is_taken, is_gone, no_cell, cell_after, cells_after, brought, state_after, left_from}
-use Rattle.sfx_model.specs.Members.{ItemState, Live, Dead, ItemRepresents}
+use Rattle.sfx_item.specs.Item.{ItemState, Live, Dead}
+use Rattle.sfx_model.specs.Members.{ItemRepresents}
 use Rattle.sfx_model.specs.Results.{StateResult, Unchanged, AsSeen, Removed, DeadNow, LiveNow, CellResult, CellsResult, SkipsLeft, cell_at}
 use Rattle.sfx_model.specs.Units.{at_unit}
 use Rattle.sfx_model.proofs.Headline.{no_deletion, cell_there}

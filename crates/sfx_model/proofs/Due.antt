@@ -19,7 +19,8 @@ use Rattle.sfx_model.specs.Batch.{Batch, due, place_behind, due_end, ids_in, bat
 use Rattle.sfx_model.specs.Class.{absent_class_of}
 use Rattle.sfx_model.specs.Entry.{Task, Unlisted, Change}
 use Rattle.sfx_model.specs.Knowing.{laid_known}
-use Rattle.sfx_model.specs.Members.{Member, MemberItem, ItemState, AreRising, IsIdBelow, state_of}
+use Rattle.sfx_item.specs.Item.{MemberItem, ItemState}
+use Rattle.sfx_model.specs.Members.{Member, AreRising, IsIdBelow, state_of}
 use Rattle.sfx_model.specs.Readings.{items_from, is_unseen, unseen}
 use Rattle.sfx_model.specs.Session.{is_among, is_kept, is_unlisted, unlisted, is_live_state, tasks_of}
 use Rattle.sfx_model.proofs.Batching.{NoneUnlisted, NotUnlisted, IsUnlistedHere, AllFit}

@@ -8,7 +8,8 @@ use Rattle.sfx_item.specs.declared.cell.Cell.{Cell}
 use Rattle.sfx_model.specs.Sets.{Has}
 use Rattle.sfx_model.specs.World.{Record, Content, Written, Deleted, World, Site, Holding, WellFormed, holding, IsDeletion, IsLatest}
 use Rattle.sfx_model.specs.Events.{Stays, Taken, Stamped, Left, Gone, same_item, recorded, known_with, site_made, made, MakeLegal}
-use Rattle.sfx_model.specs.Members.{Shown, ItemState, Live, Dead, Represents, ItemRepresents, IsLatestCell, state_of, clock_of}
+use Rattle.sfx_item.specs.Item.{ItemState, Live, Dead}
+use Rattle.sfx_model.specs.Members.{Shown, Represents, ItemRepresents, IsLatestCell, state_of, clock_of}
 use Rattle.sfx_model.specs.Results.{StateResult, Unchanged, AsSeen, Removed, DeadNow, LiveNow, CellResult, EditResult, mark_of, cell_at}
 use Rattle.sfx_model.proofs.Words.{Grows, Moves}
 use Rattle.sfx_model.proofs.Standing.{cell_on, item_on, moved_stands}

@@ -18,7 +18,8 @@ use Rattle.sfx_model.specs.Deeds.{mark_with, marks_in, content_in, others_deeds,
 use Rattle.sfx_model.specs.Draft.{Draft, is_left}
 use Rattle.sfx_model.specs.Entry.{Task, Unlisted, Change, Changing, change_other, task_item, task_plan}
 use Rattle.sfx_model.specs.Clashes.{Plan}
-use Rattle.sfx_model.specs.Members.{Member, MemberItem, ItemState, shown, state_of}
+use Rattle.sfx_item.specs.Item.{MemberItem, ItemState}
+use Rattle.sfx_model.specs.Members.{Member, shown, state_of}
 use Rattle.sfx_model.specs.Replica.{RepresentsReplica}
 use Rattle.sfx_model.specs.Results.{BacksRange}
 use Rattle.sfx_model.specs.Rules.{Rules}

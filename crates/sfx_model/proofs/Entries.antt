@@ -9,7 +9,8 @@ use Rattle.sfx_item.specs.declared.cell.Cell.{Cell}
 use Rattle.sfx_model.specs.Sets.{Has, IsPart}
 use Rattle.sfx_model.specs.World.{Content, Written, Deleted, World, Site, Snapshot, Holding, WellFormed, holding, Made, IsLatest}
 use Rattle.sfx_model.specs.Events.{UnitMark, Stays, Taken, Stamped, Left, Gone, same_item, known_with, known_by, knew_by, content_of, brings, is_dropped, present_after, clock_after, site_applied, applied, UnitLegal, ApplyLegal}
-use Rattle.sfx_model.specs.Members.{Shown, ItemState, Represents, ItemRepresents, IsLatestCell, state_of, clock_of}
+use Rattle.sfx_item.specs.Item.{ItemState}
+use Rattle.sfx_model.specs.Members.{Shown, Represents, ItemRepresents, IsLatestCell, state_of, clock_of}
 use Rattle.sfx_model.specs.Results.{Backs, EntryResult, StateResult, Unchanged, AsSeen, Removed, DeadNow, LiveNow, CellResult, CellsResult, joined_by, joined_at, cell_at}
 use Rattle.sfx_model.proofs.Words.{AreSame, Grows}
 use Rattle.sfx_model.proofs.Sets.{same_self}

@@ -22,7 +22,8 @@ use Rattle.sfx_model.specs.World.{World, Site, Snapshot, WellFormed, holding}
 use Rattle.sfx_model.specs.Events.{TakeLegal}
 use Rattle.sfx_model.specs.Class.{AllKnown, TakeWhole, WholeConflict, is_forgotten_within, unit_class, absent_change, whole_change, present_change, unknown_change, class_of, absent_class_of}
 use Rattle.sfx_model.specs.Draft.{Draft, values_of, value_in, all_marked, whole_draft, conflict_mark, conflict_value, unit_mark, unit_value, is_left, unit_marks, unit_values, units_draft, draft_of, absent_draft}
-use Rattle.sfx_model.specs.Members.{Member, MemberItem, ItemState, Live, Dead, ItemRepresents, shown, state_of, vector_at}
+use Rattle.sfx_item.specs.Item.{MemberItem, ItemState, Live, Dead}
+use Rattle.sfx_model.specs.Members.{Member, ItemRepresents, shown, state_of, vector_at}
 use Rattle.sfx_model.specs.Readings.{knows_version, is_unseen_at, is_unseen}
 use Rattle.sfx_model.specs.Rules.{Rules}
 use Rattle.sfx_model.specs.Snapshots.{Meets, HasContained}

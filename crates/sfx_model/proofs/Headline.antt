@@ -9,8 +9,9 @@ use Rattle.sfx_ids.specs.declared.version.Version.{Version}
 use Rattle.sfx_model.specs.Sets.{Has}
 use Rattle.sfx_model.specs.World.{Record, Written, Deleted, World, Site, WellFormed, IsSoundItem, holding, IsAt, Made, IsDeletion, Precedes, IsLatest, IsHistory}
 use Rattle.sfx_item.specs.declared.cell.Cell.{Cell}
-use Rattle.sfx_model.specs.Members.{Shown, ItemState, Live, Dead, Represents, ItemRepresents, IsLatestState, IsLatestCell, AreRising, NamedMember, Community, RepresentsNamed, RepresentsAll, RepresentsWorld, shown, state_of}
-use Rattle.sfx_model.specs.Headline.{version_at, IsHeldOrCleaned, KnowledgeIsExact, HaveEqualKnowledge, EqualKnowledgeMeansEqualItems, DeletionsAreRespected, FactsHold}
+use Rattle.sfx_item.specs.Item.{ItemState, Live, Dead, version_at}
+use Rattle.sfx_model.specs.Members.{Shown, Represents, ItemRepresents, IsLatestState, IsLatestCell, AreRising, NamedMember, Community, RepresentsNamed, RepresentsAll, RepresentsWorld, shown, state_of}
+use Rattle.sfx_model.specs.Headline.{IsHeldOrCleaned, KnowledgeIsExact, HaveEqualKnowledge, EqualKnowledgeMeansEqualItems, DeletionsAreRespected, FactsHold}
 use Rattle.sfx_model.proofs.Rising.{live_equal}
 use Rattle.sfx_model.proofs.Order.{one_record, one_of_both, before_known}
 

@@ -6,7 +6,8 @@ use Rattle.sfx_ids.specs.declared.version.Version.{Version}
 use Rattle.sfx_model.specs.Sets.{Has}
 use Rattle.sfx_model.specs.World.{World, Site, WellFormed, holding}
 use Rattle.sfx_model.specs.Events.{site_of, new_site, joined}
-use Rattle.sfx_model.specs.Members.{Shown, Represents, ItemRepresents, MemberItem, state_of, clock_of}
+use Rattle.sfx_item.specs.Item.{MemberItem}
+use Rattle.sfx_model.specs.Members.{Shown, Represents, ItemRepresents, state_of, clock_of}
 use Rattle.sfx_model.specs.Replica.{IsNewMember}
 
 -- A site is found as before where one more comes behind.

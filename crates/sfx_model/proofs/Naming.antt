@@ -11,7 +11,8 @@ use Rattle.sfx_segments.proofs.Tested.{Tested, yes_it, not_it, tested}
 use Rattle.sfx_model.specs.Sets.{Has}
 use Rattle.sfx_model.specs.Consistent.{live_name, AreApart}
 use Rattle.sfx_model.specs.Events.{same_item}
-use Rattle.sfx_model.specs.Members.{ItemState, Live, Dead, MemberItem, AreRising, state_of}
+use Rattle.sfx_item.specs.Item.{ItemState, Live, Dead, MemberItem}
+use Rattle.sfx_model.specs.Members.{AreRising, state_of}
 use Rattle.sfx_model.specs.Readings.{is_clashing, is_excepted, is_in_the_way, clashing_with}
 use Rattle.sfx_model.proofs.Rising.{before_differs, other_item, state_here, state_behind}
 use Rattle.sfx_model.proofs.Steps.{same_item_is, same_item_self}

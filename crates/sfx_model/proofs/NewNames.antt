@@ -11,7 +11,7 @@ use Rattle.sfx_segments.proofs.Tested.{Tested, yes_it, not_it, tested}
 use Rattle.sfx_model.specs.Sets.{Has}
 use Rattle.sfx_model.specs.Consistent.{live_name}
 use Rattle.sfx_model.specs.Headline.{live_item, live_items}
-use Rattle.sfx_model.specs.Members.{ItemState, Live, Dead, MemberItem}
+use Rattle.sfx_item.specs.Item.{ItemState, Live, Dead, MemberItem}
 use Rattle.sfx_model.specs.Readings.{is_clashing, is_excepted, is_in_the_way, clashing_with}
 use Rattle.sfx_model.specs.NewName.{is_free, first_free, new_name}
 use Rattle.sfx_model.proofs.Naming.{IsFree, clash_lists}

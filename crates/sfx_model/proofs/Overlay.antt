@@ -11,7 +11,8 @@ use Rattle.sfx_knowledge.specs.Knowledge.{laid_over}
 use Rattle.sfx_model.specs.Sets.{Has}
 use Rattle.sfx_model.specs.World.{Record, Site, Holding, holding}
 use Rattle.sfx_model.specs.Events.{same_item}
-use Rattle.sfx_model.specs.Members.{Shown, ItemState, Live, Dead, ItemRepresents, IsLatestState, IsLatestCell, state_of}
+use Rattle.sfx_item.specs.Item.{ItemState, Live, Dead}
+use Rattle.sfx_model.specs.Members.{Shown, ItemRepresents, IsLatestState, IsLatestCell, state_of}
 use Rattle.sfx_model.specs.Results.{SameVectors, KeepsOthers}
 use Rattle.sfx_model.proofs.Words.{AreSame, Grows}
 use Rattle.sfx_model.proofs.Sets.{has_left, has_right, has_either}

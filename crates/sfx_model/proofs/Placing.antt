@@ -4,7 +4,8 @@ use Rattle.std.proofs.lemmas.Bool.{and_parts, and_from, or_cases, or_left, or_ri
 use Rattle.sfx_ids.specs.declared.item_id.ItemId.{ItemId}
 use Rattle.sfx_model.specs.Sets.{Has}
 use Rattle.sfx_model.specs.Events.{same_item}
-use Rattle.sfx_model.specs.Members.{MemberItem, ItemState, AreRising, IsIdBelow, state_of}
+use Rattle.sfx_item.specs.Item.{MemberItem, ItemState}
+use Rattle.sfx_model.specs.Members.{AreRising, IsIdBelow, state_of}
 use Rattle.sfx_model.specs.States.{is_id_below, with_item, with_state}
 use Rattle.sfx_model.proofs.Steps.{same_item_is}
 use Rattle.sfx_model.proofs.Rising.{ids_compared, before_trans, state_here, state_behind}

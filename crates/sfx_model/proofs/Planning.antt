@@ -21,7 +21,8 @@ use Rattle.sfx_model.specs.Consistent.{live_name, AreApart}
 use Rattle.sfx_model.specs.Deeds.{version_behind, name_given}
 use Rattle.sfx_model.specs.Draft.{Draft, cells_of}
 use Rattle.sfx_model.specs.Entry.{Changing, is_stamped, is_taken, is_gone, cell_after, cells_after, brought, state_after, no_cell, other_name, other_state, change_other, change_others}
-use Rattle.sfx_model.specs.Members.{ItemState, Live, Dead, MemberItem, AreRising, state_of}
+use Rattle.sfx_item.specs.Item.{ItemState, Live, Dead, MemberItem}
+use Rattle.sfx_model.specs.Members.{AreRising, state_of}
 use Rattle.sfx_model.specs.Putting.{with_state_of}
 use Rattle.sfx_model.specs.Readings.{clashing_with}
 use Rattle.sfx_model.specs.NewName.{new_name}

@@ -3,7 +3,8 @@ use Rattle.std.proofs.Common.{◌≡◌, ◌≢◌, ◌⊎◌, Bool, true, false
 use Rattle.sfx_ids.specs.declared.item_id.ItemId.{ItemId}
 use Rattle.sfx_model.specs.Sets.{Has}
 use Rattle.sfx_model.specs.Events.{same_item}
-use Rattle.sfx_model.specs.Members.{MemberItem, ItemState, AreRising, IsIdBelow, state_of}
+use Rattle.sfx_item.specs.Item.{MemberItem, ItemState}
+use Rattle.sfx_model.specs.Members.{AreRising, IsIdBelow, state_of}
 use Rattle.sfx_model.specs.States.{with_state}
 use Rattle.sfx_model.specs.Putting.{put_for, put_item, drop_item, with_state_of}
 use Rattle.sfx_model.proofs.Steps.{same_item_is}

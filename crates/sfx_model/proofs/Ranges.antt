@@ -10,7 +10,8 @@ use Rattle.sfx_ids.specs.Cut.{is_between}
 use Rattle.sfx_model.specs.Sets.{Has, IsPart}
 use Rattle.sfx_model.specs.World.{World, Site, Snapshot, WellFormed, holding, Made}
 use Rattle.sfx_model.specs.Events.{is_in, is_learned, site_learned, learned, LearnLegal}
-use Rattle.sfx_model.specs.Members.{Shown, ItemState, Represents, ItemRepresents, state_of, clock_of}
+use Rattle.sfx_item.specs.Item.{ItemState}
+use Rattle.sfx_model.specs.Members.{Shown, Represents, ItemRepresents, state_of, clock_of}
 use Rattle.sfx_model.specs.Results.{LearnResult, BacksRange, joined_in, is_left_at}
 use Rattle.sfx_model.proofs.Frame.{grows_self}
 use Rattle.sfx_model.proofs.Sites.{site_there}

@@ -6,7 +6,8 @@ use Rattle.sfx_ids.specs.declared.item_id.ItemId.{ItemId}
 use Rattle.sfx_ids.specs.declared.version.Version.{Version}
 use Rattle.sfx_model.specs.World.{Content, Record, World, Site, Snapshot, WellFormed, holding}
 use Rattle.sfx_model.specs.Events.{Event, Units, Widen, Join, Make, Clean, Forget, Apply, Learn, UnitMark, site_of, put_site, at_site, after, Legal, new_site, recorded, site_made, site_cleaned, site_forgot, site_applied, site_learned, made, cleaned, forgot, applied, learned, MakeLegal, CleanLegal, ApplyLegal, LearnLegal}
-use Rattle.sfx_model.specs.Members.{Shown, ItemState, Represents, ItemRepresents}
+use Rattle.sfx_item.specs.Item.{ItemState}
+use Rattle.sfx_model.specs.Members.{Shown, Represents, ItemRepresents}
 use Rattle.sfx_model.specs.Results.{EditResult, CleanResult, ForgetResult, EntryResult, LearnResult, Backs, BacksRange, BacksForgotten}
 use Rattle.sfx_model.specs.Replica.{RepresentsReplica, IsOfOthers, IsNewMember}
 use Rattle.sfx_model.proofs.Words.{Step}

@@ -4,7 +4,8 @@ use Rattle.std.proofs.lemmas.Bool.{cases_order, false_from_ne_true}
 use Rattle.sfx_ids.specs.declared.item_id.ItemId.{ItemId}
 use Rattle.sfx_model.specs.Sets.{Has}
 use Rattle.sfx_model.specs.Events.{same_item}
-use Rattle.sfx_model.specs.Members.{MemberItem, ItemState, Live, Dead, AreRising, IsIdBelow, state_of}
+use Rattle.sfx_item.specs.Item.{MemberItem, ItemState, Live, Dead}
+use Rattle.sfx_model.specs.Members.{AreRising, IsIdBelow, state_of}
 use Rattle.sfx_item.specs.declared.cell.Cell.{Cell}
 use Rattle.sfx_model.proofs.Steps.{same_item_is, same_item_self}
 use Rattle.sfx_model.specs.Headline.{live_item, live_items}

@@ -13,7 +13,8 @@ use Rattle.sfx_vector.specs.Clocks.{tick_of}
 use Rattle.sfx_knowledge.specs.Row.{row_at}
 use Rattle.sfx_knowledge.specs.Knowledge.{no_row}
 use Rattle.sfx_knowledge.proofs.Forgets.{none_forgotten}
-use Rattle.sfx_model.specs.Members.{Live, NamedMember, shown, state_of, vector_at, IsLatestCell, ItemRepresents, RepresentsWorld}
+use Rattle.sfx_item.specs.Item.{Live}
+use Rattle.sfx_model.specs.Members.{NamedMember, shown, state_of, vector_at, IsLatestCell, ItemRepresents, RepresentsWorld}
 use Rattle.sfx_model.specs.Examples.{run_item, run_version, run_record, run_records, run_events, run_world, run_community, name_and_value, value_alone}
 use Rattle.sfx_model.proofs.Steps.{same_item_is}
 use Rattle.sfx_model.proofs.Keeping.{events_keep}

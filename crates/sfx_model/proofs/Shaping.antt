@@ -13,7 +13,8 @@ use Rattle.sfx_model.specs.declared.mark.Mark.TheVariants.{Stays, Taken, Stamped
 use Rattle.sfx_model.specs.Sets.{IsPart}
 use Rattle.sfx_model.specs.World.{World, Site, Snapshot, Record, Holding}
 use Rattle.sfx_model.specs.Events.{TakeLegal, DropLegal}
-use Rattle.sfx_model.specs.Members.{ItemState, Live, Dead, ItemRepresents}
+use Rattle.sfx_item.specs.Item.{ItemState, Live, Dead}
+use Rattle.sfx_model.specs.Members.{ItemRepresents}
 use Rattle.sfx_model.specs.Results.{cell_at}
 use Rattle.sfx_model.specs.Draft.{Draft, all_marked, values_of, value_in, whole_draft}
 use Rattle.sfx_model.specs.Units.{at_unit}

@@ -10,7 +10,8 @@ use Rattle.sfx_model.specs.Sets.{Has}
 use Rattle.sfx_model.specs.World.{Record, World, Site, Holding, WellFormed, holding, Made, IsContained}
 use Rattle.sfx_model.specs.Events.{site_of, put_site}
 use Rattle.sfx_item.specs.declared.cell.Cell.{Cell}
-use Rattle.sfx_model.specs.Members.{Shown, ItemState, Live, Dead, Represents, ItemRepresents, IsLatestCell, state_of, clock_of}
+use Rattle.sfx_item.specs.Item.{ItemState, Live, Dead}
+use Rattle.sfx_model.specs.Members.{Shown, Represents, ItemRepresents, IsLatestCell, state_of, clock_of}
 use Rattle.sfx_model.proofs.Words.{Step, Grows, IsMadeBy, Moves}
 use Rattle.sfx_model.proofs.Sets.{same_self}
 use Rattle.sfx_model.proofs.Frame.{latest_stays, dead_at_stays}

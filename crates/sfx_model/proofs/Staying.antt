@@ -7,7 +7,8 @@ use Rattle.sfx_ids.specs.declared.version.Version.{Version}
 use Rattle.sfx_model.specs.Sets.{Has}
 use Rattle.sfx_model.specs.World.{World, Site, Snapshot, Record, WellFormed, IsContained, Made, holding}
 use Rattle.sfx_model.specs.Events.{Event, Units, Widen, Join, Make, Clean, Forget, Apply, Learn, after, Legal, site_of, put_site, new_site, recorded, site_made, site_cleaned, site_forgot, site_applied, site_learned, made, cleaned, forgot, applied, learned, MakeLegal, CleanLegal, ApplyLegal, LearnLegal}
-use Rattle.sfx_model.specs.Members.{ItemState, clock_of}
+use Rattle.sfx_item.specs.Item.{ItemState}
+use Rattle.sfx_model.specs.Members.{clock_of}
 use Rattle.sfx_model.specs.Snapshots.{KeepsUnits, Carried}
 use Rattle.sfx_model.proofs.Words.{Step, IsMadeBy}
 use Rattle.sfx_model.proofs.Sets.{same_self}

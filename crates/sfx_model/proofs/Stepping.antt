@@ -5,7 +5,8 @@ use Rattle.sfx_ids.specs.declared.item_id.ItemId.{ItemId}
 use Rattle.sfx_model.specs.Sets.{IsPart}
 use Rattle.sfx_model.specs.World.{Record, World, Site, Snapshot, WellFormed}
 use Rattle.sfx_model.specs.Events.{Event, Units, Widen, Join, Make, Clean, Forget, Apply, Learn, site_of, put_site, after, Legal, AllLegal, after_all, recorded, site_made, site_cleaned, site_forgot, site_applied, site_learned, made, cleaned, forgot, applied, learned, MakeLegal, CleanLegal, ApplyLegal, LearnLegal}
-use Rattle.sfx_model.specs.Members.{ItemState, Shown, clock_of}
+use Rattle.sfx_item.specs.Item.{ItemState}
+use Rattle.sfx_model.specs.Members.{Shown, clock_of}
 use Rattle.sfx_model.specs.Replica.{IsOfOthers, RepresentsReplica}
 use Rattle.sfx_model.specs.Snapshots.{KeepsUnits, Carried}
 use Rattle.sfx_model.specs.States.{IsOf}

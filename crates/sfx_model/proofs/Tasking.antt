@@ -23,7 +23,8 @@ use Rattle.sfx_model.specs.Deeds.{marks_in, others_deeds, forget_deeds, changed_
 use Rattle.sfx_model.specs.Draft.{Draft, absent_draft}
 use Rattle.sfx_model.specs.Entry.{Task, Unlisted, Change, is_stamped, task_item, task_seen, task_draft, task_plan, unlisted_class, lacks, clock_after, state_after, left_from, changed_by, change_others, after_task}
 use Rattle.sfx_model.specs.Knowing.{laid_known}
-use Rattle.sfx_model.specs.Members.{Member, ItemState, Represents, AreRising, shown, state_of}
+use Rattle.sfx_item.specs.Item.{ItemState}
+use Rattle.sfx_model.specs.Members.{Member, Represents, AreRising, shown, state_of}
 use Rattle.sfx_model.specs.Replica.{RepresentsReplica}
 use Rattle.sfx_model.specs.Rules.{Rules}
 use Rattle.sfx_model.specs.Snapshots.{Carried}

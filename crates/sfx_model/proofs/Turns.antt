@@ -8,7 +8,8 @@ use Rattle.sfx_item.specs.declared.cell.Cell.{Cell}
 use Rattle.sfx_model.specs.Sets.{Has}
 use Rattle.sfx_model.specs.World.{empty_world, World, Site, WellFormed}
 use Rattle.sfx_model.specs.Events.{Event, Units, Join, Make, new_site, after, Legal}
-use Rattle.sfx_model.specs.Members.{Member, MemberItem, Live, Dead, NamedMember, Community, RepresentsNamed, RepresentsAll, RepresentsWorld, AreRising, shown, state_of}
+use Rattle.sfx_item.specs.Item.{MemberItem, Live, Dead}
+use Rattle.sfx_model.specs.Members.{Member, NamedMember, Community, RepresentsNamed, RepresentsAll, RepresentsWorld, AreRising, shown, state_of}
 use Rattle.sfx_model.specs.Replica.{IsNewMember, RepresentsReplica, ActsIn}
 use Rattle.sfx_model.specs.States.{with_added, Continues, ChangesMember, IsOf, Rises, with_item, with_state, next_created, cells_with, IsNewState, IsUntaken, next_version, next_item, created_contents, edited_contents, deleted_contents}
 use Rattle.sfx_model.proofs.Keeping.{event_keeps}

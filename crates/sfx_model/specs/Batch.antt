@@ -16,8 +16,8 @@ use Rattle.sfx_model.specs.declared.mode.Mode.TheVariants.{Normal, Recover}
 use Rattle.sfx_model.specs.Sets.{Has}
 use Rattle.sfx_model.specs.Events.{is_in}
 use Rattle.sfx_model.specs.Consistent.{IsItemState}
-use Rattle.sfx_model.specs.Headline.{version_at}
-use Rattle.sfx_model.specs.Members.{ItemState, MemberItem, Member, AreIdsRising, AreRising, state_of}
+use Rattle.sfx_item.specs.Item.{version_at, ItemState, MemberItem}
+use Rattle.sfx_model.specs.Members.{Member, AreIdsRising, AreRising, state_of}
 use Rattle.sfx_model.specs.Readings.{unseen}
 use Rattle.sfx_model.specs.Class.{is_within}
 use Rattle.sfx_model.specs.Knowing.{laid_known, forgets_starts}

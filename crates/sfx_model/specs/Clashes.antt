@@ -6,7 +6,7 @@ use Rattle.sfx_ids.specs.declared.item_id.ItemId.{ItemId}
 use Rattle.sfx_model.specs.declared.clash_rule.ClashRule.{ClashRule}
 use Rattle.sfx_model.specs.declared.clash_rule.ClashRule.TheVariants.{Source, Destination, RenameSource, RenameDestination, Skip}
 use Rattle.sfx_model.specs.declared.mark.Mark.TheVariants.{Stamped}
-use Rattle.sfx_model.specs.Members.{MemberItem}
+use Rattle.sfx_item.specs.Item.{MemberItem}
 use Rattle.sfx_model.specs.Draft.{Draft, all_marked, all_left}
 use Rattle.sfx_model.specs.Readings.{clashing_with}
 use Rattle.sfx_model.specs.NewName.{new_name}

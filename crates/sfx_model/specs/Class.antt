@@ -15,7 +15,7 @@ use Rattle.sfx_model.specs.declared.unit_class.UnitClass.{UnitClass}
 use Rattle.sfx_model.specs.declared.unit_class.UnitClass.TheVariants.{Known as KnownUnit, Newer, Concurrent}
 use Rattle.sfx_model.specs.declared.absent.Absent.{Absent}
 use Rattle.sfx_model.specs.declared.absent.Absent.TheVariants.{Keep, Drop, Conflict}
-use Rattle.sfx_model.specs.Members.{ItemState, Live, Dead, MemberItem}
+use Rattle.sfx_item.specs.Item.{ItemState, Live, Dead, MemberItem}
 use Rattle.sfx_model.specs.Readings.{knows_version, is_unseen_at, is_unseen}
 use Rattle.sfx_model.specs.Units.{each_unit, every_unit}
 

@@ -13,8 +13,8 @@ use Rattle.sfx_knowledge.specs.Forgotten.{AreForgets, fvec}
 use Rattle.sfx_item.specs.Clash.{Clash}
 use Rattle.sfx_item.specs.Row.{IsRow, first_value}
 use Rattle.sfx_model.specs.World.{IsContained}
-use Rattle.sfx_model.specs.Headline.{version_at}
-use Rattle.sfx_model.specs.Members.{ItemState, Live, Dead, MemberItem, Member, AreRising, vector_at, state_of}
+use Rattle.sfx_item.specs.Item.{version_at, ItemState, Live, Dead, MemberItem}
+use Rattle.sfx_model.specs.Members.{Member, AreRising, vector_at, state_of}
 
 -- A live item has a cell for each unit, the first with a name.
 abbrev pub IsItemState : ℕ → ItemState → Type 0

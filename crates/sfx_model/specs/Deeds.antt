@@ -17,7 +17,8 @@ use Rattle.sfx_model.specs.declared.session_end.SessionEnd.{SessionEnd}
 use Rattle.sfx_model.specs.Consistent.{live_name}
 use Rattle.sfx_model.specs.World.{Content, Written, Deleted, Snapshot}
 use Rattle.sfx_model.specs.Events.{UnitMark, Stays as Keeps, Taken as Takes, Stamped as Stamps, Left as Leaves, Gone as Drops, Event, Make, Forget, Apply, Learn, Deed, Own, ForgetFrom, ApplyFrom, LearnFrom}
-use Rattle.sfx_model.specs.Members.{Member, MemberItem, state_of}
+use Rattle.sfx_item.specs.Item.{MemberItem}
+use Rattle.sfx_model.specs.Members.{Member, state_of}
 use Rattle.sfx_model.specs.States.{next_version, edited_contents, deleted_contents}
 use Rattle.sfx_model.specs.Batch.{Batch, batch_from, mode_of}
 use Rattle.sfx_model.specs.Clashes.{Plan}

@@ -12,7 +12,7 @@ use Rattle.sfx_model.specs.declared.unit_class.UnitClass.{UnitClass}
 use Rattle.sfx_model.specs.declared.unit_class.UnitClass.TheVariants.{Known, Newer, Concurrent}
 use Rattle.sfx_model.specs.declared.absent.Absent.{Absent}
 use Rattle.sfx_model.specs.declared.absent.Absent.TheVariants.{Keep as Kept, Drop as Dropped, Conflict}
-use Rattle.sfx_model.specs.Members.{ItemState, Live, Dead}
+use Rattle.sfx_item.specs.Item.{ItemState, Live, Dead}
 use Rattle.sfx_model.specs.Class.{Class, AllKnown, TakeWhole, Units, WholeConflict}
 use Rattle.sfx_model.specs.Rules.{Rules}
 use Rattle.sfx_model.specs.Units.{each_unit, at_unit}

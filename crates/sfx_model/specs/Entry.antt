@@ -20,7 +20,8 @@ use Rattle.sfx_model.specs.declared.mark.Mark.TheVariants.{Stays, Taken, Stamped
 use Rattle.sfx_model.specs.declared.mode.Mode.{Mode}
 use Rattle.sfx_model.specs.declared.mode.Mode.TheVariants.{Normal, Recover}
 use Rattle.sfx_model.specs.Consistent.{live_name}
-use Rattle.sfx_model.specs.Members.{ItemState, Live, Dead, MemberItem, Member, state_of}
+use Rattle.sfx_item.specs.Item.{ItemState, Live, Dead, MemberItem}
+use Rattle.sfx_model.specs.Members.{Member, state_of}
 use Rattle.sfx_model.specs.States.{next_version}
 use Rattle.sfx_model.specs.Batch.{Batch}
 use Rattle.sfx_model.specs.Class.{class_of, absent_class_of}

@@ -4,7 +4,8 @@ use Rattle.sfx_ids.specs.declared.item_id.ItemId.{ItemId}
 use Rattle.sfx_ids.specs.declared.version.Version.{Version}
 use Rattle.sfx_model.specs.World.{Content, Written, Deleted, Record, World, empty_world}
 use Rattle.sfx_model.specs.Events.{Event, Units, Join, Make, same_item, after_all}
-use Rattle.sfx_model.specs.Members.{Live, Community}
+use Rattle.sfx_item.specs.Item.{Live}
+use Rattle.sfx_model.specs.Members.{Community}
 
 -- The item of the examples: the first that the replica 1 created. It has one unit.
 abbrev pub example_item : ItemId

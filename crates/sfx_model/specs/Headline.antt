@@ -1,19 +1,14 @@
 use Rattle.std.specs.Prelude.{◌≡◌, ℕ, ◌<◌, ◌↔◌, List, [], ◌∷◌, Option, Some, None, slice_get}
-use Rattle.std.specs.Option.{option_map}
 use Rattle.sfx_ids.specs.declared.cut.Cut.{Cut}
 use Rattle.sfx_ids.specs.declared.cut.Cut.TheVariants.{At}
 use Rattle.sfx_ids.specs.declared.item_id.ItemId.{ItemId}
 use Rattle.sfx_ids.specs.declared.version.Version.{Version}
 use Rattle.sfx_segments.specs.Segments.{IsPlace}
-use Rattle.sfx_item.specs.declared.cell.Cell.{Cell}
 use Rattle.sfx_model.specs.Sets.{Has}
 use Rattle.sfx_model.specs.World.{Record, World, IsAt, Made, IsDeletion, Precedes, IsContained}
-use Rattle.sfx_model.specs.Members.{ItemState, Live, Dead, MemberItem, Shown, shown, NamedMember, Community, state_of}
-
--- The version that the state has of the unit.
-abbrev pub version_at : ItemState → ℕ → Option Version
-version_at (Live cells) u = option_map (λ c. c.version) (slice_get cells u)
-version_at (Dead v) u = Some v
+use Rattle.sfx_item.specs.declared.cell.Cell.{Cell}
+use Rattle.sfx_item.specs.Item.{ItemState, Live, Dead, MemberItem, version_at}
+use Rattle.sfx_model.specs.Members.{Shown, shown, NamedMember, Community, state_of}
 
 -- The member has another version of the unit, which was made knowing this one, or has just this one.
 abbrev pub IsHeldVersion : World → ItemId → ℕ → Version → ItemState → Type 0

@@ -9,7 +9,6 @@ pub mod Agreement
 pub mod States
 pub mod Examples
 pub mod Snapshots
-pub mod Items
 pub mod Consistent
 pub mod Readings
 pub mod Units

@@ -8,20 +8,10 @@ use Rattle.sfx_segments.specs.Segments.{IsPlace}
 use Rattle.sfx_knowledge.specs.Knowledge.{Known, tick_at}
 use Rattle.sfx_knowledge.specs.Forgotten.{Forgets, fvec}
 use Rattle.sfx_item.specs.declared.cell.Cell.{Cell}
+use Rattle.sfx_item.specs.Item.{ItemState, Live, Dead, MemberItem}
 use Rattle.sfx_model.specs.Sets.{Has}
 use Rattle.sfx_model.specs.World.{Written, Record, Site, World, Holding, holding, IsAt, Made, IsLatest, IsDeadAt, IsContained}
 use Rattle.sfx_model.specs.Events.{same_item}
-
--- What a replica holds of a present item: a cell for each unit of a live one, and the version of the
--- deletion for a dead one, a tombstone.
-pub data ItemState : Type 0 where
-  Live : (cells : List Cell) → ItemState
-  Dead : (version : Version) → ItemState
-
--- A present item of a replica.
-pub record MemberItem : Type 0 where
-  pub id : ItemId
-  pub state : ItemState
 
 -- A replica's state as plain data. Knowledge and forgotten deletions are lists of segments, each with
 -- the place from which it counts; the items are in order of their ids.

@@ -3,7 +3,7 @@ use Rattle.std.specs.Prelude.{ℕ, zero, suc, ◌+◌, Bool, if◌then◌else◌
 use Rattle.sfx_ids.specs.declared.item_id.ItemId.{ItemId}
 use Rattle.sfx_item.specs.Renamed.{renamed}
 use Rattle.sfx_model.specs.Headline.{live_items}
-use Rattle.sfx_model.specs.Members.{MemberItem}
+use Rattle.sfx_item.specs.Item.{MemberItem}
 use Rattle.sfx_model.specs.Readings.{clashing_with}
 
 -- No other live item's name clashes with this one.

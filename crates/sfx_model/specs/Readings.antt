@@ -11,8 +11,7 @@ use Rattle.sfx_knowledge.specs.Knowledge.{Known, tick_at}
 use Rattle.sfx_item.specs.Decided.{is_clash}
 use Rattle.sfx_model.specs.Consistent.{live_name}
 use Rattle.sfx_model.specs.Events.{same_item, some_unit}
-use Rattle.sfx_model.specs.Headline.{version_at}
-use Rattle.sfx_model.specs.Members.{ItemState, MemberItem}
+use Rattle.sfx_item.specs.Item.{version_at, ItemState, MemberItem}
 
 -- The first item whose place is not before this one.
 abbrev pub first_from : Cut → List MemberItem → Option MemberItem

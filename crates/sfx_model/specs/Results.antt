@@ -11,7 +11,8 @@ use Rattle.sfx_knowledge.specs.Knowledge.{laid_over}
 use Rattle.sfx_model.specs.Sets.{Has}
 use Rattle.sfx_model.specs.World.{Content, Written, Deleted, Snapshot, World, Made, IsContained}
 use Rattle.sfx_model.specs.Events.{UnitMark, Stays, Taken, Stamped, Left, Gone, same_item, is_in, forgotten_with, forgotten_joined, clock_after, AllMarked, AllStamped}
-use Rattle.sfx_model.specs.Members.{ItemState, Live, Dead, Shown, clock_of, state_of}
+use Rattle.sfx_item.specs.Item.{ItemState, Live, Dead}
+use Rattle.sfx_model.specs.Members.{Shown, clock_of, state_of}
 
 -- The made-with knowledge that comes with a snapshot's state of an item: at the item it contains exactly
 -- the made versions that the snapshot knows, and at each unit it stays within the clocks of the world. A

@@ -15,7 +15,8 @@ use Rattle.sfx_model.specs.declared.session_end.SessionEnd.TheVariants.{Done, Cu
 use Rattle.sfx_model.specs.declared.mode.Mode.{Mode}
 use Rattle.sfx_model.specs.declared.mode.Mode.TheVariants.{Normal, Recover}
 use Rattle.sfx_model.specs.Events.{same_item, is_in}
-use Rattle.sfx_model.specs.Members.{ItemState, Live, Dead, MemberItem, Member}
+use Rattle.sfx_item.specs.Item.{ItemState, Live, Dead, MemberItem}
+use Rattle.sfx_model.specs.Members.{Member}
 use Rattle.sfx_model.specs.Batch.{Batch, batch_from, mode_of}
 use Rattle.sfx_model.specs.Class.{absent_class_of}
 use Rattle.sfx_model.specs.Clashes.{Plan}

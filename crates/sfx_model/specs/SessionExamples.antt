@@ -15,7 +15,8 @@ use Rattle.sfx_model.specs.declared.clash_rule.ClashRule.{ClashRule}
 use Rattle.sfx_model.specs.declared.clash_rule.ClashRule.TheVariants.{RenameSource, Skip as SkipClash}
 use Rattle.sfx_model.specs.declared.entry_kind.EntryKind.{EntryKind}
 use Rattle.sfx_model.specs.declared.mark.Mark.{Mark}
-use Rattle.sfx_model.specs.Members.{Live, Dead, MemberItem, Member}
+use Rattle.sfx_item.specs.Item.{Live, Dead, MemberItem}
+use Rattle.sfx_model.specs.Members.{Member}
 use Rattle.sfx_model.specs.Entry.{Entry, Other}
 use Rattle.sfx_model.specs.Knowing.{laid_known}
 use Rattle.sfx_model.specs.Rules.{Rules}

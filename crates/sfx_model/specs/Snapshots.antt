@@ -6,8 +6,8 @@ use Rattle.sfx_ids.specs.declared.version.Version.{Version}
 use Rattle.sfx_model.specs.Sets.{Has}
 use Rattle.sfx_model.specs.World.{World, Site, Snapshot, IsSound, IsContained, holding}
 use Rattle.sfx_model.specs.Events.{Event, Units, Widen, Join, Make, Clean, Forget, Apply, Learn}
-use Rattle.sfx_model.specs.Headline.{version_at}
-use Rattle.sfx_model.specs.Members.{Shown, ItemState, Represents, ItemRepresents}
+use Rattle.sfx_item.specs.Item.{version_at, ItemState}
+use Rattle.sfx_model.specs.Members.{Shown, Represents, ItemRepresents}
 use Rattle.sfx_model.specs.Results.{Backs}
 
 -- The event leaves the unit count as it is.

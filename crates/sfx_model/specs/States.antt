@@ -8,7 +8,8 @@ use Rattle.sfx_item.specs.declared.cell.Cell.{Cell}
 use Rattle.sfx_model.specs.Sets.{Has}
 use Rattle.sfx_model.specs.World.{Content, Written, Deleted, World, WellFormed}
 use Rattle.sfx_model.specs.Events.{Event, Units, Widen, Join, Make, Clean, Forget, Apply, Learn, after, Legal, same_item}
-use Rattle.sfx_model.specs.Members.{ItemState, Live, MemberItem, Member, NamedMember, Community, RepresentsWorld}
+use Rattle.sfx_item.specs.Item.{ItemState, Live, MemberItem}
+use Rattle.sfx_model.specs.Members.{Member, NamedMember, Community, RepresentsWorld}
 use Rattle.sfx_vector.specs.Clocks.{tick_of}
 use Rattle.sfx_segments.specs.Segments.{IsPlace}
 use Rattle.sfx_knowledge.specs.Knowledge.{tick_at}

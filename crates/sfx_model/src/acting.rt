@@ -10,7 +10,8 @@ ghost use Rattle.sfx_model.specs.Entry.{Change, Task, Unlisted, task_item, task_
 ghost use Rattle.sfx_model.specs.Events.{AllLegal, AreLegalDeeds, after_all, site_of};
 ghost use Rattle.sfx_model.specs.Headline.{FactsHold, HaveEqualKnowledge};
 ghost use Rattle.sfx_model.specs.Knowing.{ahead_of, laid_known};
-ghost use Rattle.sfx_model.specs.Members.{Community, ItemState, Member, MemberItem, RepresentsWorld, shown, state_of};
+ghost use Rattle.sfx_item.specs.Item.{ItemState, MemberItem};
+ghost use Rattle.sfx_model.specs.Members.{Community, Member, RepresentsWorld, shown, state_of};
 ghost use Rattle.sfx_model.specs.Replica.{RepresentsReplica};
 ghost use Rattle.sfx_model.specs.Results.{BacksRange};
 ghost use Rattle.sfx_model.specs.Rules.{Rules};

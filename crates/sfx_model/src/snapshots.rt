@@ -5,7 +5,8 @@ ghost use Rattle.sfx_ids.specs.declared.cut.Cut.TheVariants.{At};
 ghost use Rattle.sfx_ids.specs.declared.item_id.ItemId.{ItemId};
 ghost use Rattle.sfx_ids.specs.declared.version.Version.{Version};
 ghost use Rattle.sfx_model.specs.Events.{Gone, Event, IsFresh, IsKnownHere, Stays, Legal, Stamped, Taken, UnitLegal, after};
-ghost use Rattle.sfx_model.specs.Members.{ItemState, Shown, state_of};
+ghost use Rattle.sfx_item.specs.Item.{ItemState};
+ghost use Rattle.sfx_model.specs.Members.{Shown, state_of};
 ghost use Rattle.sfx_model.specs.Snapshots.{AreWithin, Carried, HasContained, KeepsUnits, Meets};
 ghost use Rattle.sfx_model.specs.World.{Content, IsContained, Site, Snapshot, WellFormed, World};
 

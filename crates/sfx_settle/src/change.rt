@@ -2,7 +2,7 @@ ghost use Rattle.std.specs.Prelude.{◌≡◌, ◌≤◌, IfOk};
 ghost use Rattle.std.specs.Option.{option_map};
 ghost use Rattle.sfx_ids.specs.ItemId.{creation_of};
 ghost use Rattle.sfx_model.specs.Class.{absent_change, class_of, present_change, unit_class, whole_change};
-ghost use Rattle.sfx_model.specs.Items.{item_view, state_view};
+ghost use Rattle.sfx_item.specs.Item.{state_view};
 ghost use Rattle.sfx_model.specs.Readings.{knows_version};
 ghost use Rattle.sfx_model.specs.Units.{each_unit};
 ghost use Rattle.sfx_settle.specs.Class.{class_view};

@@ -1,7 +1,7 @@
 ghost use Rattle.std.specs.Prelude.{◌≡◌, IfOk, map};
 ghost use Rattle.std.specs.Option.{option_map, option_or};
 ghost use Rattle.sfx_model.specs.Draft.{values_of, whole_draft};
-ghost use Rattle.sfx_model.specs.Items.{state_view};
+ghost use Rattle.sfx_item.specs.Item.{state_view};
 
 use crate::{Draft, Keep, Mark};
 use sfx_ids::Memory;

@@ -1,7 +1,7 @@
 use Rattle.std.proofs.Common.{◌≡◌, map}
 use Rattle.std.specs.List.{range_with_len}
 use Rattle.sfx_model.specs.Class.{unit_class}
-use Rattle.sfx_model.specs.Items.{state_view}
+use Rattle.sfx_item.specs.Item.{state_view}
 use Rattle.sfx_settle.proofs.change.unit_classes.Given as goal
 
 abbrev pub invariant-loop-index : goal.invariant-loop-index

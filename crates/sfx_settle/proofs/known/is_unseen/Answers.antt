@@ -1,5 +1,5 @@
 use Rattle.std.proofs.Common.{◌≡◌, ℕ, true, sym, subst}
-use Rattle.sfx_model.specs.Items.{state_view}
+use Rattle.sfx_item.specs.Item.{state_view}
 use Rattle.sfx_model.specs.Readings.{is_unseen_at}
 use Rattle.sfx_settle.proofs.Testing.{some_found, unit_is}
 use Rattle.sfx_settle.proofs.known.is_unseen.Goals as goal

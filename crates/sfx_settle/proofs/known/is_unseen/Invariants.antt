@@ -1,6 +1,6 @@
 use Rattle.std.proofs.Common.{◌≡◌, false}
 use Rattle.sfx_model.specs.Events.{some_unit}
-use Rattle.sfx_model.specs.Items.{state_view}
+use Rattle.sfx_item.specs.Item.{state_view}
 use Rattle.sfx_model.specs.Readings.{is_unseen_at}
 use Rattle.sfx_settle.proofs.known.is_unseen.Given as goal
 
