@@ -2,7 +2,6 @@ ghost use Rattle.std.specs.Prelude.{◌≡◌, ◌≤◌, IfOk};
 ghost use Rattle.std.specs.Option.{option_map};
 ghost use Rattle.sfx_ids.specs.ItemId.{creation_of};
 ghost use Rattle.sfx_model.specs.Class.{absent_change, class_of, present_change, unit_class, whole_change};
-ghost use Rattle.sfx_item.specs.Item.{state_view};
 ghost use Rattle.sfx_model.specs.Readings.{knows_version};
 ghost use Rattle.sfx_model.specs.Units.{each_unit};
 ghost use Rattle.sfx_settle.specs.Class.{class_view};
@@ -35,8 +34,8 @@ pub fn classify<const U: usize>(
 ) -> Result<Class<U>, Memory>
     requires { 1 ≤ U }
     ensures { IfOk result (λ class. class_view class ≡
-        class_of U known.now made_with.now forgotten.now (item_view change.now)
-        (option_map (λ x. state_view x.now.state) local.entry)) }
+        class_of U known.now made_with.now forgotten.now change.now
+        (option_map (λ x. x.now.state) local.entry)) }
 {
     if !is_unseen(known, &change.id, change) {
         return Ok(Class::Known);
@@ -84,8 +83,8 @@ fn present_change<const U: usize>(
     known: &Knowledge<U>,
 ) -> Result<Class<U>, Memory>
     ensures { IfOk result (λ class. class_view class ≡
-        present_change U known.now made_with.now change.now.id (state_view change.now.state)
-        (state_view local.now.state)) }
+        present_change U known.now made_with.now change.now.id change.now.state
+        local.now.state) }
 {
     match (&change.state, &local.state) {
         (State::Live(_), State::Live(_)) => {
@@ -98,7 +97,7 @@ fn present_change<const U: usize>(
 /// The class of a change as a whole.
 fn whole_change<const U: usize>(id: &ItemId, made_with: &Knowledge<U>, local: &Item<U>) -> Class<U>
     ensures { class_view result ≡ whole_change U made_with.now
-        (record { id = id.now; state = state_view local.now.state }) }
+        (record { id = id.now; state = local.now.state }) }
 {
     if is_unseen(made_with, id, local) {
         Class::WholeConflict
@@ -116,8 +115,8 @@ fn unit_classes<const U: usize>(
     known: &Knowledge<U>,
 ) -> Result<UnitClasses<U>, Memory>
     ensures { IfOk result (λ classes. classes ≡
-        each_unit U (unit_class known.now made_with.now change.now.id (state_view change.now.state)
-        (state_view local.now.state))) }
+        each_unit U (unit_class known.now made_with.now change.now.id change.now.state
+        local.now.state)) }
 {
     let mut classes = Vec::with_capacity(alloc, U)?;
     for index in 0..U {
@@ -135,8 +134,8 @@ fn unit_class<const U: usize>(
     known: &Knowledge<U>,
     unit: UnitId<U>,
 ) -> UnitClass
-    ensures { result ≡ unit_class known.now made_with.now change.now.id (state_view change.now.state)
-        (state_view local.now.state) unit.entry }
+    ensures { result ≡ unit_class known.now made_with.now change.now.id change.now.state
+        local.now.state unit.entry }
 {
     if !is_unseen_at(known, &change.id, change, unit) {
         UnitClass::Known

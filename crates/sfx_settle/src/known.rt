@@ -1,7 +1,6 @@
 //! What is compared with knowledge.
 ghost use Rattle.std.specs.Prelude.{◌≡◌};
 ghost use Rattle.sfx_model.specs.Class.{is_forgotten_within};
-ghost use Rattle.sfx_item.specs.Item.{state_view};
 ghost use Rattle.sfx_model.specs.Readings.{is_unseen, is_unseen_at, knows_version};
 
 use sfx_ids::{ItemId, UnitId, Version};
@@ -28,14 +27,14 @@ pub fn is_unseen_at<const U: usize>(
     item: &Item<U>,
     unit: UnitId<U>,
 ) -> bool
-    ensures { result ≡ is_unseen_at known.now id.now (state_view item.now.state) unit.entry }
+    ensures { result ≡ is_unseen_at known.now id.now item.now.state unit.entry }
 {
     !knows_version(known, id, unit, &item.version(unit))
 }
 
 /// Whether this state of the item has a unit whose version the knowledge does not contain.
 pub fn is_unseen<const U: usize>(known: &Knowledge<U>, id: &ItemId, item: &Item<U>) -> bool
-    ensures { result ≡ is_unseen U known.now (record { id = id.now; state = state_view item.now.state }) }
+    ensures { result ≡ is_unseen U known.now (record { id = id.now; state = item.now.state }) }
 {
     for index in 0..U {
         let unit = UnitId::new(index).unwrap();

@@ -1,7 +1,6 @@
 ghost use Rattle.std.specs.Prelude.{◌≡◌, IfOk, map};
 ghost use Rattle.std.specs.Option.{option_map, option_or};
 ghost use Rattle.sfx_model.specs.Draft.{values_of, whole_draft};
-ghost use Rattle.sfx_item.specs.Item.{state_view};
 
 use crate::{Draft, Keep, Mark};
 use sfx_ids::Memory;
@@ -21,8 +20,8 @@ pub fn settle_whole<const U: usize>(
     keep: Keep,
 ) -> Result<Draft<U>, Memory>
     ensures { IfOk result (λ draft. draft ≡
-        whole_draft U keep (option_map (λ x. state_view x.now.state) change.entry)
-        (option_map (λ x. state_view x.now.state) local.entry)) }
+        whole_draft U keep (option_map (λ x. x.now.state) change.entry)
+        (option_map (λ x. x.now.state) local.entry)) }
 {
     match keep {
         Keep::Source => Draft::all(alloc, Mark::Stamped, values_of(alloc, change)?),
@@ -39,8 +38,8 @@ fn live_values<const U: usize>(
     local: Option<&Item<U>>,
 ) -> Result<Option<Vec<Value>>, Memory>
     ensures { IfOk result (λ values. option_map (λ v. v.items) values ≡
-        option_or (values_of (option_map (λ x. state_view x.now.state) change.entry))
-        (values_of (option_map (λ x. state_view x.now.state) local.entry))) }
+        option_or (values_of (option_map (λ x. x.now.state) change.entry))
+        (values_of (option_map (λ x. x.now.state) local.entry))) }
 {
     match values_of(alloc, change)? {
         None => values_of(alloc, local),
@@ -57,7 +56,7 @@ pub fn values_of<const U: usize>(
     item: Option<&Item<U>>,
 ) -> Result<Option<Vec<Value>>, Memory>
     ensures { IfOk result (λ values. option_map (λ v. v.items) values ≡
-        values_of (option_map (λ x. state_view x.now.state) item.entry)) }
+        values_of (option_map (λ x. x.now.state) item.entry)) }
 {
     let Some(item) = item else {
         return Ok(None);

@@ -1,8 +1,7 @@
 use Rattle.std.proofs.Common.{◌≡◌, false}
 use Rattle.sfx_model.specs.Events.{some_unit}
-use Rattle.sfx_item.specs.Item.{state_view}
 use Rattle.sfx_model.specs.Readings.{is_unseen_at}
 use Rattle.sfx_settle.proofs.known.is_unseen.Given as goal
 
 abbrev pub invariant-loop-index : goal.invariant-loop-index
-invariant-loop-index g l = some_unit (is_unseen_at l.known l.id (state_view l.item.state)) l.index ≡ false
+invariant-loop-index g l = some_unit (is_unseen_at l.known l.id l.item.state) l.index ≡ false
