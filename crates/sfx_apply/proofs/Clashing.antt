@@ -9,7 +9,8 @@ use Rattle.sfx_item.specs.Decided.{is_clash}
 use Rattle.sfx_item.proofs.Decisions.{clash_decided}
 use Rattle.sfx_model.specs.Consistent.{AreApart, live_name}
 use Rattle.sfx_model.specs.Events.{same_item}
-use Rattle.sfx_model.specs.Members.{ItemState, MemberItem, AreRising, state_of}
+use Rattle.sfx_item.specs.Item.{ItemState, MemberItem}
+use Rattle.sfx_model.specs.Members.{AreRising, state_of}
 use Rattle.sfx_model.specs.Putting.{drop_all, put_all, put_item}
 use Rattle.sfx_model.specs.Readings.{clashing_with, is_clashing, is_in_the_way}
 use Rattle.sfx_model.specs.NewName.{is_free}

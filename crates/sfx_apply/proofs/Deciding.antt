@@ -22,7 +22,8 @@ use Rattle.sfx_model.specs.Consistent.{IsConsistent, IsItemState}
 use Rattle.sfx_model.specs.Draft.{Draft, all_left, draft_of}
 use Rattle.sfx_model.specs.Entry.{Change, forgets_after, task_draft, task_plan}
 use Rattle.sfx_model.specs.Knowing.{laid_known}
-use Rattle.sfx_model.specs.Members.{ItemState, Live, Dead, MemberItem, Member, state_of}
+use Rattle.sfx_item.specs.Item.{ItemState, Live, Dead, MemberItem}
+use Rattle.sfx_model.specs.Members.{Member, state_of}
 use Rattle.sfx_model.specs.Readings.{clashing_with, is_unseen, knows_version}
 use Rattle.sfx_model.specs.NewName.{is_free}
 use Rattle.sfx_model.specs.Rules.{Rules}

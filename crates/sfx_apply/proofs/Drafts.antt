@@ -18,8 +18,7 @@ use Rattle.sfx_model.specs.Class.{WholeConflict}
 use Rattle.sfx_model.specs.Consistent.{IsItemState, live_name}
 use Rattle.sfx_model.specs.Draft.{Draft, all_marked, cells_of, conflict_value, draft_of, is_left, unit_mark, unit_marks, unit_value, unit_values, units_draft, value_in, values_of, whole_draft as all_conflict}
 use Rattle.sfx_model.specs.Entry.{cell_after, cells_after, is_gone, is_stamped, is_taken, no_cell, state_after}
-use Rattle.sfx_model.specs.Headline.{version_at}
-use Rattle.sfx_model.specs.Members.{ItemState, Live, Dead}
+use Rattle.sfx_item.specs.Item.{version_at, ItemState, Live, Dead}
 use Rattle.sfx_model.specs.Rules.{Rules}
 use Rattle.sfx_model.specs.Units.{at_unit}
 use Rattle.sfx_apply.specs.Work.{taken_cells, taken_state}

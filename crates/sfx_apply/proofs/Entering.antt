@@ -5,7 +5,6 @@ use Rattle.std.specs.Option.{option_copied, option_map}
 use Rattle.std.proofs.lemmas.Bool.{false_from_ne_true, ltb-true}
 use Rattle.sfx_ids.specs.Tick.{max_tick}
 use Rattle.sfx_ids.specs.declared.item_id.ItemId.{ItemId}
-use Rattle.sfx_item.specs.declared.item.Item.{Item}
 use Rattle.sfx_model.specs.declared.apply_end.ApplyEnd.{ApplyEnd}
 use Rattle.sfx_model.specs.declared.apply_end.ApplyEnd.TheVariants.{Cut}
 use Rattle.sfx_model.specs.declared.entry_kind.EntryKind.{EntryKind}
@@ -14,9 +13,9 @@ use Rattle.sfx_model.specs.Batch.{Batch, IsBatch, IsSent}
 use Rattle.sfx_model.specs.Clashes.{Plan}
 use Rattle.sfx_model.specs.Consistent.{IsConsistent}
 use Rattle.sfx_model.specs.Draft.{Draft}
-use Rattle.sfx_model.specs.Items.{state_view}
+use Rattle.sfx_item.specs.Item.{ItemState, MemberItem}
 use Rattle.sfx_model.specs.Entry.{Change, Changing, Entry, Other, changed_by, entry_of, is_stamped, kind_of, kind_of_marks, lacks, ticks_needed}
-use Rattle.sfx_model.specs.Members.{ItemState, MemberItem, Member, AreRising, state_of}
+use Rattle.sfx_model.specs.Members.{Member, AreRising, state_of}
 use Rattle.sfx_model.specs.Rules.{Rules}
 use Rattle.sfx_model.specs.Session.{is_spent, reduced, stop_before}
 use Rattle.sfx_provider.specs.Commit.{CommitData}
@@ -111,29 +110,29 @@ taken_turn units b rules change w after m here marks good waits batch skip no_mo
 
 -- A copied reference to an item shows the same state.
 pub copied_state :
-    {U : ℕ} (r : Option (Bor (Item U))) (o : Option (Item U))
-    → option_copied r ≡ o → option_map (λ x. state_view x.now.state) r ≡ option_map (λ x. state_view x.state) o
+    (r : Option (Bor MemberItem)) (o : Option MemberItem)
+    → option_copied r ≡ o → option_map (λ x. x.now.state) r ≡ option_map (λ x. x.state) o
 copied_state None None is = refl
 copied_state None (Some y) is = absurd (cc)
 copied_state (Some x) None is = absurd (cc)
-copied_state {U} (Some x) (Some y) is =
+copied_state (Some x) (Some y) is =
     let same : x.now ≡ y = cc in
-    ap (λ (z : Item U). Some (state_view z.state)) same
+    ap (λ (z : MemberItem). Some z.state) same
 
 -- The turn of a change that was taken, by what was read.
 pub read_turn :
-    {U : ℕ} (b : Batch) (rules : Rules) (change : MemberItem) (w after : WorkData) (m n : Member) (item : Option (Bor (Item U))) (local : Option (Item U))
+    {U : ℕ} (b : Batch) (rules : Rules) (change : MemberItem) (w after : WorkData) (m n : Member) (item : Option (Bor MemberItem)) (local : Option MemberItem)
     (draft : Draft) (marks : List Mark)
     → IsConsistent U m → Waits U w.pending m → IsBatch U b → LeavesConflicts rules → KnowsNoMore U m b → IsSent U b change.id change.state
     → is_spent w.budget ≡ false
-    → option_copied item ≡ local → option_map (λ x. state_view x.state) local ≡ state_of (destination U w m).items change.id
+    → option_copied item ≡ local → option_map (λ x. x.state) local ≡ state_of (destination U w m).items change.id
     → n ≡ m → marks ≡ draft.marks → draft ≡ (plan_at U b rules change (destination U w n)).draft
-    → after.pending ≡ with_marks U b change marks (option_map (λ x. state_view x.now.state) item) w.pending
+    → after.pending ≡ with_marks U b change marks (option_map (λ x. x.now.state) item) w.pending
     → after.entries ≡ w.entries ++ quiet_entry change.id marks ∷ []
     → after.budget ≡ reduced w.budget 1
     → (None ≡ end_before U b rules change w m) × (after ≡ turned U b rules change w m) × Waits U after.pending m
 read_turn {U} b rules change w after m n item local draft marks good waits batch skip no_more sent more copied there same opened planned pending entries budget =
     let marked : marks ≡ (plan_at U b rules change (destination U w m)).draft.marks =
     opened ∙ ap (λ (d : Draft). d.marks) planned ∙ ap (λ (x : Member). (plan_at U b rules change (destination U w x)).draft.marks) same in
-    taken_turn U b rules change w after m (option_map (λ x. state_view x.now.state) item) marks good waits batch skip no_more sent more
+    taken_turn U b rules change w after m (option_map (λ x. x.now.state) item) marks good waits batch skip no_more sent more
     (copied_state item local copied ∙ there) marked pending entries budget

@@ -20,7 +20,8 @@ use Rattle.sfx_model.specs.Draft.{is_left}
 use Rattle.sfx_model.specs.Entry.{left_from}
 use Rattle.sfx_model.specs.Events.{same_item}
 use Rattle.sfx_model.specs.Knowing.{learned_known}
-use Rattle.sfx_model.specs.Members.{ItemState, MemberItem, Member, state_of, vector_at}
+use Rattle.sfx_item.specs.Item.{ItemState, MemberItem}
+use Rattle.sfx_model.specs.Members.{Member, state_of, vector_at}
 use Rattle.sfx_model.specs.Putting.{drop_all, put_all, put_item}
 use Rattle.sfx_model.specs.Sets.{Has}
 use Rattle.sfx_model.specs.Units.{at_unit}

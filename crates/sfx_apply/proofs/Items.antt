@@ -2,7 +2,8 @@
 use Rattle.std.proofs.Common.{◌≡◌, List, [], Option, Some, None, sym, ◌∙◌, ap}
 use Rattle.std.specs.Option.{option_or}
 use Rattle.sfx_ids.specs.declared.item_id.ItemId.{ItemId}
-use Rattle.sfx_model.specs.Members.{ItemState, MemberItem, AreRising, state_of}
+use Rattle.sfx_item.specs.Item.{ItemState, MemberItem}
+use Rattle.sfx_model.specs.Members.{AreRising, state_of}
 use Rattle.sfx_model.specs.Putting.{drop_all, put_all}
 use Rattle.sfx_items.proofs.ItemListLemmas.{look_up}
 

@@ -19,7 +19,8 @@ use Rattle.sfx_model.specs.Clashes.{Plan}
 use Rattle.sfx_model.specs.Consistent.{IsConsistent}
 use Rattle.sfx_model.specs.Entry.{Change, Changing, after_task, change_others, changed_by, clock_after, forgets_after, is_taken, left_from, state_after}
 use Rattle.sfx_model.specs.Knowing.{learned_known, stored_known}
-use Rattle.sfx_model.specs.Members.{ItemState, MemberItem, Member, AreRising, state_of}
+use Rattle.sfx_item.specs.Item.{ItemState, MemberItem}
+use Rattle.sfx_model.specs.Members.{Member, AreRising, state_of}
 use Rattle.sfx_model.specs.Putting.{drop_all, put_all, put_item, with_state_of}
 use Rattle.sfx_model.specs.Rules.{Rules}
 use Rattle.sfx_model.specs.Session.{after_range, lefts}

@@ -3,15 +3,14 @@ use Rattle.std.proofs.Common.{◌≡◌, Bor, ℕ, zero, suc, ◌+◌, ◌<◌, 
 use Rattle.std.specs.List.{filter}
 use Rattle.std.proofs.lemmas.Bool.Decides.{nat_tests}
 use Rattle.std.proofs.lemmas.List.{drop_all, length-drop, length-map, map-append}
-use Rattle.sfx_item.specs.declared.item.Item.{Item}
 use Rattle.sfx_model.specs.declared.apply_end.ApplyEnd.{ApplyEnd}
 use Rattle.sfx_model.specs.declared.apply_end.ApplyEnd.TheVariants.{Whole}
 use Rattle.sfx_model.specs.declared.mode.Mode.TheVariants.{Normal}
 use Rattle.sfx_model.specs.Batch.{Batch, IsBatch, IsSent}
 use Rattle.sfx_model.specs.Consistent.{IsConsistent}
 use Rattle.sfx_model.specs.Entry.{Change, Entry}
-use Rattle.sfx_model.specs.Items.{item_view, state_view}
-use Rattle.sfx_model.specs.Members.{MemberItem, Member}
+use Rattle.sfx_item.specs.Item.{MemberItem}
+use Rattle.sfx_model.specs.Members.{Member}
 use Rattle.sfx_model.specs.Moments.{committed, stops}
 use Rattle.sfx_model.specs.Rules.{Rules}
 use Rattle.sfx_model.specs.Session.{Outcome, applied, go, is_live_state, is_more, tasks_of}
@@ -51,15 +50,15 @@ has_first xs ys i x is = dropped i xs (subst (λ (zs : List MemberItem). Has x z
     dropped (suc k) [] has = has
     dropped (suc k) (z ∷ zs) has = inr (dropped k zs has)
 
-seen_get : {U : ℕ} (refs : List (Bor (Item U))) (i : ℕ) (x : Bor (Item U)) → get_or (seen_views refs) i (item_view x.now) ≡ item_view (get_or refs i x).now
+seen_get : (refs : List (Bor MemberItem)) (i : ℕ) (x : Bor MemberItem) → get_or (seen_views refs) i x.now ≡ (get_or refs i x).now
 seen_get [] i x = refl
 seen_get (y ∷ ys) zero x = refl
 seen_get (y ∷ ys) (suc i) x = seen_get ys i x
 
 -- The turn at an index: its change was sent, and behind it are the others.
-pub record TurnAt {U : ℕ} (b : Batch) (refs : List (Bor (Item U))) (i : ℕ) (x : Bor (Item U)) : Type 0 where
-  pub sent : IsSent U b x.now.id (state_view x.now.state)
-  pub opened : drop i (seen_views refs) ≡ item_view x.now ∷ drop (i + 1) (seen_views refs)
+pub record TurnAt {U : ℕ} (b : Batch) (refs : List (Bor MemberItem)) (i : ℕ) (x : Bor MemberItem) : Type 0 where
+  pub sent : IsSent U b x.now.id x.now.state
+  pub opened : drop i (seen_views refs) ≡ x.now ∷ drop (i + 1) (seen_views refs)
   pub more : nat_lt (i + 1) (length refs) ≡ is_more (map Change (drop (i + 1) (seen_views refs)))
 
 more_left : (xs : List MemberItem) (i : ℕ) → nat_lt i (length xs) ≡ is_more (map Change (drop i xs))
@@ -78,18 +77,18 @@ more_left xs i = by_test (nat_lt i (length xs)) refl
         sym (ap (λ (ys : List MemberItem). is_more (map Change ys)) (drop_all i xs past))
 
 pub turn_at :
-    {U : ℕ} (b : Batch) (refs : List (Bor (Item U))) (i : ℕ) (x : Bor (Item U))
+    {U : ℕ} (b : Batch) (refs : List (Bor MemberItem)) (i : ℕ) (x : Bor MemberItem)
     → IsBatch U b → seen_views refs ≡ in_turn b.changes → x ≡ get_or refs i x → i < length refs
     → TurnAt b refs i x
 turn_at {U} b refs i x batch order is inside =
-    let long : length (seen_views refs) ≡ length refs = length-map refs (λ y. item_view y.now) in
-    let at : item_view x.now ≡ get_or (seen_views refs) i (item_view x.now) = ap (λ (y : Bor (Item U)). item_view y.now) is ∙ sym (seen_get refs i x) in
-    let open_at : drop i (seen_views refs) ≡ item_view x.now ∷ drop (i + 1) (seen_views refs) =
-    opened (seen_views refs) i (item_view x.now) at (omega (arith, long, inside)) in
-    let there : Has (item_view x.now) b.changes =
-    turn_of b.changes (item_view x.now)
-    (subst (λ (xs : List MemberItem). Has (item_view x.now) xs) order (has_first (seen_views refs) (drop (i + 1) (seen_views refs)) i (item_view x.now) open_at)) in record {
-      sent = batch.changes x.now.id (state_view x.now.state) (state_has b.changes (item_view x.now) batch.rising there);
+    let long : length (seen_views refs) ≡ length refs = length-map refs (λ y. y.now) in
+    let at : x.now ≡ get_or (seen_views refs) i x.now = ap (λ (y : Bor MemberItem). y.now) is ∙ sym (seen_get refs i x) in
+    let open_at : drop i (seen_views refs) ≡ x.now ∷ drop (i + 1) (seen_views refs) =
+    opened (seen_views refs) i x.now at (omega (arith, long, inside)) in
+    let there : Has x.now b.changes =
+    turn_of b.changes x.now
+    (subst (λ (xs : List MemberItem). Has x.now xs) order (has_first (seen_views refs) (drop (i + 1) (seen_views refs)) i x.now open_at)) in record {
+      sent = batch.changes x.now.id x.now.state (state_has b.changes x.now batch.rising there);
       opened = open_at;
       more = ap (nat_lt (i + 1)) (sym long) ∙ more_left (seen_views refs) (i + 1);
     }
@@ -110,7 +109,7 @@ turns_normal units b m turns normal order = ap (map Change) order ∙ sym (tasks
 -- A batch begins.
 pub loop_begun :
     {U : ℕ} {P : Type 0} {state : P → Member} {kept : P → Option Member} {settled : P → Type 0} {came : P → P → List Member → Type 0} (p : P)
-    (b : Batch) (rules : Rules) (group : ℕ) (w : WorkData) (refs : List (Bor (Item U)))
+    (b : Batch) (rules : Rules) (group : ℕ) (w : WorkData) (refs : List (Bor MemberItem))
     → IsConsistent U (state p) → KnowsNoMore U (state p) b → settled p → ((a : P) → came a a [])
     → w ≡ work_begun U w.budget (state p) → map Change (seen_views refs) ≡ tasks_of U b (state p)
     → Stands (Arrived state kept settled came p p (state p)) U b rules group (applied U b rules w.budget (state p)) (state p) w (seen_views refs)
@@ -191,8 +190,8 @@ loop_breaks {P} {state} {kept} {settled} {came} {broke} {p} {q} {r} {units} {b} 
 
 -- ---- the range at the end
 
-none_left : {U : ℕ} (refs : List (Bor (Item U))) (i : ℕ) → length refs ≤ i → drop i (seen_views refs) ≡ []
-none_left refs i past = drop_all i (seen_views refs) (let long = length-map refs (λ y. item_view y.now) in omega (arith, long, past))
+none_left : (refs : List (Bor MemberItem)) (i : ℕ) → length refs ≤ i → drop i (seen_views refs) ≡ []
+none_left refs i past = drop_all i (seen_views refs) (let long = length-map refs (λ y. y.now) in omega (arith, long, past))
 
 -- The batch has come to its end, where the range is laid over as it is to be.
 pub record AtRange (Came : List Member → Type 0) (units : ℕ) (b : Batch) (rules : Rules) (group : ℕ) (out : Outcome) (m : Member) (w : WorkData) : Type 0 where
@@ -200,7 +199,7 @@ pub record AtRange (Came : List Member → Type 0) (units : ℕ) (b : Batch) (ru
   pub lays : RangeLays units b w m
 
 pub at_range :
-    {U : ℕ} (Came : List Member → Type 0) (b : Batch) (rules : Rules) (group : ℕ) (out : Outcome) (m : Member) (w : WorkData) (refs : List (Bor (Item U))) (i : ℕ)
+    {U : ℕ} (Came : List Member → Type 0) (b : Batch) (rules : Rules) (group : ℕ) (out : Outcome) (m : Member) (w : WorkData) (refs : List (Bor MemberItem)) (i : ℕ)
     → Stands Came U b rules group out m w (drop i (seen_views refs)) → length refs ≤ i → RangeLays U b w m
     → AtRange Came U b rules group out m w
 at_range {U} Came b rules group out m w refs i stands past lays = record {

@@ -16,7 +16,8 @@ use Rattle.sfx_model.specs.Consistent.{IsItemState, live_name}
 use Rattle.sfx_model.specs.Draft.{Draft, draft_of}
 use Rattle.sfx_model.specs.Entry.{Change, forgets_after, is_taken, kind_by, kind_of_marks, task_draft, task_plan}
 use Rattle.sfx_model.specs.Knowing.{laid_known}
-use Rattle.sfx_model.specs.Members.{ItemState, Live, Dead, MemberItem, Member, state_of}
+use Rattle.sfx_item.specs.Item.{ItemState, Live, Dead, MemberItem}
+use Rattle.sfx_model.specs.Members.{Member, state_of}
 use Rattle.sfx_model.specs.Readings.{clashing_with, is_unseen, knows_version}
 use Rattle.sfx_model.specs.Rules.{Rules}
 use Rattle.sfx_model.specs.Units.{each_unit}

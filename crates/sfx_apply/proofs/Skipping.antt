@@ -1,11 +1,10 @@
 -- A change at a destination where conflicts are left alone.
 use Rattle.std.proofs.Common.{◌≡◌, Bor, ℕ, ◌+◌, ◌<◌, nat_lt, List, length, drop, get_or, Option, Some, None, refl, subst}
-use Rattle.sfx_item.specs.declared.item.Item.{Item}
 use Rattle.sfx_model.specs.declared.mode.Mode.TheVariants.{Normal}
 use Rattle.sfx_model.specs.Batch.{Batch, IsBatch, IsSent}
 use Rattle.sfx_model.specs.Consistent.{IsConsistent}
-use Rattle.sfx_model.specs.Items.{item_view}
-use Rattle.sfx_model.specs.Members.{ItemState, MemberItem, Member, state_of}
+use Rattle.sfx_item.specs.Item.{ItemState, MemberItem}
+use Rattle.sfx_model.specs.Members.{Member, state_of}
 use Rattle.sfx_model.specs.Rules.{Rules}
 use Rattle.sfx_model.specs.Session.{Outcome}
 use Rattle.sfx_provider.proofs.Commits.{commits_consistent, stored}
@@ -47,15 +46,15 @@ skipped_lays units b rules change w m good waits no_more batch sent skip normal 
 -- The batch has come to the change at an index.
 pub at_turn :
     {U : ℕ} {Came : List Member → Type 0} {group : ℕ} {out : Outcome} {m : Member} {w : WorkData}
-    (b : Batch) (rules : Rules) (refs : List (Bor (Item U))) (i : ℕ) (x : Bor (Item U))
+    (b : Batch) (rules : Rules) (refs : List (Bor MemberItem)) (i : ℕ) (x : Bor MemberItem)
     → IsBatch U b → seen_views refs ≡ in_turn b.changes → x ≡ get_or refs i x → i < length refs
     → LeavesConflicts rules → b.mode ≡ Normal → IsConsistent U m
     → Stands Came U b rules group out m w (drop i (seen_views refs))
-    → AtTurn Came U b rules group out m w (item_view x.now) (drop (i + 1) (seen_views refs)) (nat_lt (i + 1) (length refs))
+    → AtTurn Came U b rules group out m w x.now (drop (i + 1) (seen_views refs)) (nat_lt (i + 1) (length refs))
 at_turn {U} {Came} {group} {out} {m} {w} b rules refs i x batch order is inside skip normal good stands =
     let turn : TurnAt b refs i x = turn_at b refs i x batch order is inside in record {
       stands = subst (λ (xs : List MemberItem). Stands Came U b rules group out m w xs) turn.opened stands;
       good = good;
-      lays = skipped_lays U b rules (item_view x.now) w m good stands.waits stands.no_more batch turn.sent skip normal;
+      lays = skipped_lays U b rules x.now w m good stands.waits stands.no_more batch turn.sent skip normal;
       left = turn.more;
     }

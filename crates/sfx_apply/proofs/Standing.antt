@@ -7,7 +7,8 @@ use Rattle.sfx_model.specs.Batch.{Batch}
 use Rattle.sfx_model.specs.Clashes.{Plan}
 use Rattle.sfx_model.specs.Consistent.{IsConsistent}
 use Rattle.sfx_model.specs.Entry.{Change, Entry, after_task, entry_of}
-use Rattle.sfx_model.specs.Members.{MemberItem, Member}
+use Rattle.sfx_item.specs.Item.{MemberItem}
+use Rattle.sfx_model.specs.Members.{Member}
 use Rattle.sfx_model.specs.Moments.{Moment, Applied, Learned, Stopped, committed, divides, stops}
 use Rattle.sfx_model.specs.Rules.{Rules}
 use Rattle.sfx_model.specs.Session.{AppliedBatch, Outcome, Progress, after_range, applied_batch, finished, go, is_more, lefts, stopped, with_entry}

@@ -3,15 +3,14 @@ use Rattle.std.specs.Prelude.{ℕ, Bool, true, not, ◌&&◌, if◌then◌else�
 use Rattle.std.specs.Borrow.{Bor}
 use Rattle.std.specs.List.{filter}
 use Rattle.sfx_ids.specs.declared.item_id.ItemId.{ItemId}
-use Rattle.sfx_item.specs.declared.item.Item.{Item}
 use Rattle.sfx_model.specs.declared.apply_end.ApplyEnd.{ApplyEnd}
 use Rattle.sfx_model.specs.Batch.{Batch}
 use Rattle.sfx_model.specs.Class.{class_of}
 use Rattle.sfx_model.specs.Clashes.{Plan}
 use Rattle.sfx_model.specs.Draft.{Draft, draft_of}
 use Rattle.sfx_model.specs.Entry.{Change, Entry, entry_of, task_plan}
-use Rattle.sfx_model.specs.Items.{item_view}
-use Rattle.sfx_model.specs.Members.{ItemState, MemberItem, Member, state_of}
+use Rattle.sfx_item.specs.Item.{ItemState, MemberItem}
+use Rattle.sfx_model.specs.Members.{Member, state_of}
 use Rattle.sfx_model.specs.Moments.{divides}
 use Rattle.sfx_model.specs.NewName.{is_free}
 use Rattle.sfx_model.specs.Rules.{Rules}
@@ -36,8 +35,8 @@ abbrev pub in_turn : List MemberItem → List MemberItem
 in_turn changes = filter (λ x. not (is_live_state x.state)) changes ++ filter (λ x. is_live_state x.state) changes
 
 -- The items that are referred to.
-abbrev pub seen_views : {U : ℕ} → List (Bor (Item U)) → List MemberItem
-seen_views turns = map (λ x. item_view x.now) turns
+abbrev pub seen_views : List (Bor MemberItem) → List MemberItem
+seen_views turns = map (λ x. x.now) turns
 
 -- What is to be done with the change at the destination.
 abbrev pub plan_at : ℕ → Batch → Rules → MemberItem → Member → Plan

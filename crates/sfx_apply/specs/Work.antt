@@ -14,7 +14,8 @@ use Rattle.sfx_model.specs.Batch.{Batch}
 use Rattle.sfx_model.specs.Class.{Class, AllKnown, TakeWhole, Units, WholeConflict}
 use Rattle.sfx_model.specs.Entry.{Entry, is_taken, kind_of_marks, left_from, no_cell}
 use Rattle.sfx_model.specs.Knowing.{learned_known}
-use Rattle.sfx_model.specs.Members.{ItemState, Live, Dead, MemberItem, Member}
+use Rattle.sfx_item.specs.Item.{ItemState, Live, Dead, MemberItem}
+use Rattle.sfx_model.specs.Members.{Member}
 use Rattle.sfx_model.specs.Putting.{put_item}
 use Rattle.sfx_model.specs.Units.{each_unit, at_unit}
 use Rattle.sfx_provider.specs.Commit.{CommitData}

@@ -5,7 +5,6 @@ ghost use Rattle.sfx_apply.specs.Turns.{draft_now};
 ghost use Rattle.sfx_apply.specs.Work.{FitsSides, live_cells};
 ghost use Rattle.sfx_model.specs.Class.{Units, class_of};
 ghost use Rattle.sfx_model.specs.Draft.{all_marked, draft_of, values_of};
-ghost use Rattle.sfx_model.specs.Items.{item_view, state_view};
 ghost use Rattle.sfx_model.specs.declared.mark.Mark.TheVariants.{Taken};
 ghost use Rattle.sfx_settle.specs.Class.{class_view};
 ghost use Rattle.sfx_settle.specs.Rules.{rules_view};
@@ -29,9 +28,9 @@ pub(crate) fn drafted<const U: usize, M: Merger>(
     local: Option<&Item<U>>,
 ) -> Result<Draft<U>, Memory>
     requires { 1 ≤ U }
-    ensures { let here = option_map (λ x. state_view x.now.state) local.entry in
+    ensures { let here = option_map (λ x. x.now.state) local.entry in
         let rules = rules_view M.meaning rules.now in
-        IfOk result (λ draft. draft ≡ draft_now U batch.now rules work.now.pending (item_view change.now) here) }
+        IfOk result (λ draft. draft ≡ draft_now U batch.now rules work.now.pending change.now here) }
 {
     let class = class_of(alloc, work, batch, change, local)?;
     draft_of(alloc, &class, rules, change, local)
@@ -46,10 +45,10 @@ fn class_of<const U: usize>(
     local: Option<&Item<U>>,
 ) -> Result<Class<U>, Memory>
     requires { 1 ≤ U }
-    ensures { let here = option_map (λ x. state_view x.now.state) local.entry in
+    ensures { let here = option_map (λ x. x.now.state) local.entry in
         let c = work.now.pending in
         IfOk result (λ class. class_view class
-        ≡ class_of U c.knowledge batch.now.made_with c.forgotten (item_view change.now) here) }
+        ≡ class_of U c.knowledge batch.now.made_with c.forgotten change.now here) }
 {
     let pending = &work.pending;
     classify(
@@ -70,10 +69,10 @@ fn draft_of<const U: usize, M: Merger>(
     change: &Item<U>,
     local: Option<&Item<U>>,
 ) -> Result<Draft<U>, Memory>
-    requires { let here = option_map (λ x. state_view x.now.state) local in
-        FitsSides (class_view class.now) (state_view change.now.state) here }
-    ensures { let here = option_map (λ x. state_view x.now.state) local.entry in
-        let seen = Some (state_view change.now.state) in
+    requires { let here = option_map (λ x. x.now.state) local in
+        FitsSides (class_view class.now) change.now.state here }
+    ensures { let here = option_map (λ x. x.now.state) local.entry in
+        let seen = Some change.now.state in
         IfOk result (λ draft. draft ≡ draft_of U (rules_view M.meaning rules.now) (class_view class.now) seen here) }
 {
     match class {
@@ -86,7 +85,7 @@ fn draft_of<const U: usize, M: Merger>(
 
 /// The draft of an item that is taken from the source as it is.
 fn whole_draft<const U: usize>(alloc: Global, change: &Item<U>) -> Result<Draft<U>, Memory>
-    ensures { let seen = Some (state_view change.now.state) in
+    ensures { let seen = Some change.now.state in
         IfOk result (λ draft. draft ≡ all_marked U Taken (values_of seen)) }
 {
     let values = values_of(alloc, Some(change))?;
@@ -101,10 +100,10 @@ fn live_draft<const U: usize, M: Merger>(
     change: &Item<U>,
     local: Option<&Item<U>>,
 ) -> Result<Draft<U>, Memory>
-    requires { let here = option_map (λ x. state_view x.now.state) local in
-        FitsSides (Units classes.now) (state_view change.now.state) here }
-    ensures { let here = option_map (λ x. state_view x.now.state) local.entry in
-        let seen = Some (state_view change.now.state) in
+    requires { let here = option_map (λ x. x.now.state) local in
+        FitsSides (Units classes.now) change.now.state here }
+    ensures { let here = option_map (λ x. x.now.state) local.entry in
+        let seen = Some change.now.state in
         IfOk result (λ draft. draft ≡ draft_of U (rules_view M.meaning rules.now) (Units classes.now) seen here) }
 {
     match (&change.state, live_row(local)) {
@@ -115,7 +114,7 @@ fn live_draft<const U: usize, M: Merger>(
 
 /// The row of an item that is there and live.
 fn live_row<'a, const U: usize>(item: Option<&'a Item<U>>) -> Option<&'a Row<U>>
-    ensures { let here = option_map (λ x. state_view x.now.state) item.entry in
+    ensures { let here = option_map (λ x. x.now.state) item.entry in
         option_map (λ row. row.now) result ≡ live_cells here }
 {
     match &item?.state {

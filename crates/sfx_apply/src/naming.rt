@@ -5,7 +5,7 @@ ghost use Rattle.sfx_apply.specs.Turns.{destination};
 ghost use Rattle.sfx_apply.specs.Work.{Waits};
 ghost use Rattle.sfx_item.specs.Name.{IsName};
 ghost use Rattle.sfx_model.specs.Clashes.{drafted_name};
-ghost use Rattle.sfx_model.specs.Items.{item_view, items_view, state_view};
+ghost use Rattle.sfx_item.specs.Item.{state_view};
 ghost use Rattle.sfx_model.specs.Members.{AreRising, state_of};
 ghost use Rattle.sfx_model.specs.Readings.{is_clashing, is_in_the_way};
 ghost use Rattle.sfx_model.specs.NewName.{is_free};
@@ -67,7 +67,7 @@ pub(crate) fn is_free<const U: usize, P: Provider<U>>(
 
 /// Whether the name of one of the items but that with this id clashes with this one.
 fn clashes_with_one<const U: usize>(items: &[Item<U>], name: &Name, except: &ItemId) -> bool
-    ensures { result ≡ list_any (is_in_the_way name.now (Some except.now)) (items_view items.now) }
+    ensures { result ≡ list_any (is_in_the_way name.now (Some except.now)) items.now }
 {
     for item in items {
         if is_in_the_way(item, name, except) {
@@ -79,7 +79,7 @@ fn clashes_with_one<const U: usize>(items: &[Item<U>], name: &Name, except: &Ite
 
 /// Whether the item is live and not that with this id, and its name clashes with this one.
 fn is_in_the_way<const U: usize>(item: &Item<U>, name: &Name, except: &ItemId) -> bool
-    ensures { result ≡ is_in_the_way name.now (Some except.now) (item_view item.now) }
+    ensures { result ≡ is_in_the_way name.now (Some except.now) item.now }
 {
     item.id != *except && is_clashing(&item.state, name)
 }
@@ -96,8 +96,8 @@ fn is_clashing<const U: usize>(state: &State<U>, name: &Name) -> bool
 
 /// Whether each of the ids is that of one of the items.
 fn are_put<const U: usize>(ids: &[ItemId], items: &[Item<U>]) -> bool
-    requires rising { AreRising (items_view items.now) }
-    ensures { result ≡ list_all (λ id. is_some (state_of (items_view items.now) id)) ids.now }
+    requires rising { AreRising items.now }
+    ensures { result ≡ list_all (λ id. is_some (state_of items.now id)) ids.now }
 {
     for id in ids {
         if find(items, id).is_none() {

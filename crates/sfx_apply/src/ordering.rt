@@ -2,7 +2,6 @@
 ghost use Rattle.std.specs.Prelude.{◌≡◌, IfOk, OnOk, ◌++◌, not};
 ghost use Rattle.std.specs.List.{filter};
 ghost use Rattle.sfx_apply.specs.Turns.{in_turn, seen_views};
-ghost use Rattle.sfx_model.specs.Items.{items_view, state_view};
 ghost use Rattle.sfx_model.specs.Session.{is_live_state};
 
 use sfx_batch::Batch;
@@ -25,7 +24,7 @@ fn ordered<'a, const U: usize>(
     alloc: Global,
     changes: &'a [Item<U>],
 ) -> Result<Vec<&'a Item<U>>, Memory>
-    ensures { IfOk result (λ turns. seen_views turns.items ≡ in_turn (items_view changes.now)) }
+    ensures { IfOk result (λ turns. seen_views turns.items ≡ in_turn changes.now) }
 {
     let mut turns = Vec::with_capacity(alloc, changes.len())?;
     add_dead(&mut turns, changes)?;
@@ -38,7 +37,7 @@ fn add_dead<'a, const U: usize>(
     turns: &mut Vec<&'a Item<U>>,
     changes: &'a [Item<U>],
 ) -> Result<(), Memory>
-    ensures { let dead = filter (λ x. not (is_live_state x.state)) (items_view changes.now) in
+    ensures { let dead = filter (λ x. not (is_live_state x.state)) changes.now in
         OnOk result (seen_views turns.new.items ≡ seen_views turns.old.items ++ dead) }
 {
     for change in changes {
@@ -54,7 +53,7 @@ fn add_live<'a, const U: usize>(
     turns: &mut Vec<&'a Item<U>>,
     changes: &'a [Item<U>],
 ) -> Result<(), Memory>
-    ensures { let live = filter (λ x. is_live_state x.state) (items_view changes.now) in
+    ensures { let live = filter (λ x. is_live_state x.state) changes.now in
         OnOk result (seen_views turns.new.items ≡ seen_views turns.old.items ++ live) }
 {
     for change in changes {
@@ -67,7 +66,7 @@ fn add_live<'a, const U: usize>(
 
 /// Whether the item is live.
 fn is_live<const U: usize>(item: &Item<U>) -> bool
-    ensures { result ≡ is_live_state (state_view item.now.state) }
+    ensures { result ≡ is_live_state item.now.state }
 {
     matches!(item.state, State::Live(_))
 }

@@ -7,7 +7,6 @@ ghost use Rattle.sfx_apply.specs.Work.{Waits};
 ghost use Rattle.sfx_item.specs.Name.{IsName};
 ghost use Rattle.sfx_model.specs.Clashes.{clash_draft, drafted_name};
 ghost use Rattle.sfx_model.specs.Consistent.{IsItemState};
-ghost use Rattle.sfx_model.specs.Items.{item_view, state_view};
 ghost use Rattle.sfx_model.specs.Members.{state_of};
 ghost use Rattle.sfx_model.specs.declared.mode.Mode.TheVariants.{Normal};
 ghost use Rattle.sfx_provider.specs.Fault.{HasCause, blames_storage};
@@ -38,12 +37,12 @@ pub(crate) fn planned<const U: usize, P: Provider<U>, M: Merger>(
     requires waits { Waits U work.now.pending (P.state provider.old) }
     requires skip { LeavesConflicts (rules_view M.meaning rules.now) }
     requires normal { batch.now.mode ≡ Normal }
-    requires whole { IsItemState U (state_view change.now.state) }
+    requires whole { IsItemState U change.now.state }
     requires local { let m = destination U work.now (P.state provider.old) in
-        option_map (λ x. state_view x.now.state) local ≡ state_of m.items change.now.id }
+        option_map (λ x. x.now.state) local ≡ state_of m.items change.now.id }
     ensures value { let m = destination U work.now (P.state provider.old) in
         let rules = rules_view M.meaning rules.now in
-        IfOk result (λ draft. draft ≡ (plan_at U batch.now rules (item_view change.now) m).draft) }
+        IfOk result (λ draft. draft ≡ (plan_at U batch.now rules change.now m).draft) }
     ensures rests { Rests P.state P.kept P.settled P.came provider.old provider.new }
     ensures cause { HasCause blames_storage (P.faults provider.old) (P.faults provider.new) result }
 {

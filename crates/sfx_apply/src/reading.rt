@@ -3,7 +3,6 @@ ghost use Rattle.std.specs.Prelude.{◌≡◌, [], IfOk};
 ghost use Rattle.std.specs.Option.{option_map};
 ghost use Rattle.sfx_apply.specs.Turns.{destination};
 ghost use Rattle.sfx_apply.specs.Work.{Waits};
-ghost use Rattle.sfx_model.specs.Items.{state_view};
 ghost use Rattle.sfx_model.specs.Members.{state_of};
 ghost use Rattle.sfx_provider.specs.Fault.{HasCause, blames_storage};
 ghost use Rattle.sfx_provider.specs.Leaves.{Rests};
@@ -24,7 +23,7 @@ pub(crate) fn item_now<const U: usize, P: Provider<U>>(
 ) -> Result<Option<Item<U>>, ProviderFault>
     requires waits { Waits U work.now.pending (P.state provider.old) }
     ensures value { let m = destination U work.now (P.state provider.old) in
-        IfOk result (λ item. option_map (λ x. state_view x.state) item ≡ state_of m.items id.now) }
+        IfOk result (λ item. option_map (λ x. x.state) item ≡ state_of m.items id.now) }
     ensures rests { Rests P.state P.kept P.settled P.came provider.old provider.new }
     ensures cause { HasCause blames_storage (P.faults provider.old) (P.faults provider.new) result }
 {

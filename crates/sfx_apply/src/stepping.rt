@@ -5,7 +5,6 @@ ghost use Rattle.sfx_apply.specs.Turns.{destination, end_before, is_due, next_st
 ghost use Rattle.sfx_apply.specs.Work.{KnowsNoMore, Waits};
 ghost use Rattle.sfx_model.specs.Batch.{IsSent};
 ghost use Rattle.sfx_model.specs.Consistent.{IsConsistent};
-ghost use Rattle.sfx_model.specs.Items.{item_view, state_view};
 ghost use Rattle.sfx_model.specs.declared.mode.Mode.TheVariants.{Normal};
 ghost use Rattle.sfx_provider.specs.Fault.{HasCause, blames_storage};
 ghost use Rattle.sfx_provider.specs.Leaves.{Arrives, BreaksOff};
@@ -37,20 +36,20 @@ pub(crate) fn change_step<const U: usize, P: Provider<U>, M: Merger>(
     requires skip { LeavesConflicts (rules_view M.meaning rules.now) }
     requires normal { batch.now.mode ≡ Normal }
     requires no_more { KnowsNoMore U (P.state provider.old) batch.now }
-    requires sent { IsSent U batch.now change.now.id (state_view change.now.state) }
+    requires sent { IsSent U batch.now change.now.id change.now.state }
     requires group { 1 ≤ group }
     ensures value { let rules = rules_view M.meaning rules.now in
-        let x = item_view change.now in
+        let x = change.now in
         IfOk result (λ end. end ≡ end_before U batch.now rules x work.old (P.state provider.old)) }
     ensures work { let rules = rules_view M.meaning rules.now in
         let m = P.state provider.old in
-        OnOk result (work.new ≡ next_work U group batch.now rules (item_view change.now) more work.old m) }
+        OnOk result (work.new ≡ next_work U group batch.now rules change.now more work.old m) }
     ensures arrives { let rules = rules_view M.meaning rules.now in
-        let made = next_states U group batch.now rules (item_view change.now) more work.old (P.state provider.old) in
-        let last = next_state U group batch.now rules (item_view change.now) more work.old (P.state provider.old) in
+        let made = next_states U group batch.now rules change.now more work.old (P.state provider.old) in
+        let last = next_state U group batch.now rules change.now more work.old (P.state provider.old) in
         OnOk result (Arrives P.state P.kept P.settled P.came provider.old provider.new made last) }
     ensures breaks_off { let rules = rules_view M.meaning rules.now in
-        let made = next_states U group batch.now rules (item_view change.now) more work.old (P.state provider.old) in
+        let made = next_states U group batch.now rules change.now more work.old (P.state provider.old) in
         OnErr result (BreaksOff P.kept P.came P.broke provider.old provider.new made (P.state provider.old ∷ made)) }
     ensures consistent { IsConsistent U (P.state provider.old) }
     ensures cause { HasCause blames_storage (P.faults provider.old) (P.faults provider.new) result }

@@ -3,7 +3,7 @@ ghost use Rattle.std.specs.Prelude.{◌≡◌, ◌≤◌, ◌∷◌, ◌++◌, [
 ghost use Rattle.std.specs.Option.{option_map};
 ghost use Rattle.sfx_apply.specs.Work.{taken_cells, taken_state};
 ghost use Rattle.sfx_model.specs.Entry.{is_taken};
-ghost use Rattle.sfx_model.specs.Items.{state_view};
+ghost use Rattle.sfx_item.specs.Item.{state_view};
 
 use sfx_ids::Memory;
 use sfx_item::{Cell, Item, Row, State};
@@ -19,8 +19,8 @@ pub(crate) fn taken_state<const U: usize>(
     local: Option<&Item<U>>,
 ) -> Result<State<U>, Memory>
     requires { 1 ≤ U }
-    ensures { let here = option_map (λ x. state_view x.now.state) local.entry in
-        IfOk result (λ state. state_view state ≡ taken_state U marks.now (state_view change.now.state) here) }
+    ensures { let here = option_map (λ x. x.now.state) local.entry in
+        IfOk result (λ state. state_view state ≡ taken_state U marks.now change.now.state here) }
 {
     let Some(local) = local else {
         return change.state.copy(alloc);

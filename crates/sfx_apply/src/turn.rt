@@ -5,7 +5,6 @@ ghost use Rattle.sfx_apply.specs.Turns.{end_before, turned};
 ghost use Rattle.sfx_apply.specs.Work.{KnowsNoMore, Waits};
 ghost use Rattle.sfx_model.specs.Batch.{IsSent};
 ghost use Rattle.sfx_model.specs.Consistent.{IsConsistent};
-ghost use Rattle.sfx_model.specs.Items.{item_view, state_view};
 ghost use Rattle.sfx_model.specs.declared.mode.Mode.TheVariants.{Normal};
 ghost use Rattle.sfx_provider.specs.Fault.{HasCause, blames_storage};
 ghost use Rattle.sfx_provider.specs.Leaves.{Rests};
@@ -35,12 +34,12 @@ pub(crate) fn turn<const U: usize, P: Provider<U>, M: Merger>(
     requires skip { LeavesConflicts (rules_view M.meaning rules.now) }
     requires normal { batch.now.mode ≡ Normal }
     requires no_more { KnowsNoMore U (P.state provider.old) batch.now }
-    requires sent { IsSent U batch.now change.now.id (state_view change.now.state) }
+    requires sent { IsSent U batch.now change.now.id change.now.state }
     ensures value { let rules = rules_view M.meaning rules.now in
-        let x = item_view change.now in
+        let x = change.now in
         IfOk result (λ end. end ≡ end_before U batch.now rules x work.old (P.state provider.old)) }
     ensures work { let rules = rules_view M.meaning rules.now in
-        let x = item_view change.now in
+        let x = change.now in
         OnOk result (work.new ≡ turned U batch.now rules x work.old (P.state provider.old)) }
     ensures waits { OnOk result (Waits U work.new.pending (P.state provider.old)) }
     ensures rests { Rests P.state P.kept P.settled P.came provider.old provider.new }

@@ -5,7 +5,6 @@ ghost use Rattle.sfx_apply.specs.Work.{put_taken, quiet_entry, taken_state, with
 ghost use Rattle.sfx_ids.specs.declared.cut.Cut.TheVariants.{After, At};
 ghost use Rattle.sfx_knowledge.specs.Knowledge.{IsKnowledge};
 ghost use Rattle.sfx_model.specs.Entry.{left_from};
-ghost use Rattle.sfx_model.specs.Items.{item_view, items_view, state_view};
 ghost use Rattle.sfx_model.specs.Members.{AreRising};
 ghost use Rattle.sfx_model.specs.Knowing.{learned_known};
 ghost use Rattle.sfx_model.specs.Session.{is_spent, lefts, reduced};
@@ -44,7 +43,7 @@ impl<const U: usize> Model for Work<U> {
 impl<const U: usize> Work<U> {
     /// The items that wait to be put.
     pub(crate) fn puts(&self) -> &[Item<U>]
-        ensures { items_view result.now ≡ self.now.pending.puts }
+        ensures { result.now ≡ self.now.pending.puts }
     {
         self.pending.puts.as_slice()
     }
@@ -77,9 +76,9 @@ impl<const U: usize> Work<U> {
         requires some { 1 ≤ U }
         requires form { IsKnowledge U self.old.pending.knowledge }
         requires rising { AreRising self.old.pending.puts }
-        ensures pending { let here = option_map (λ x. state_view x.now.state) local.entry in
+        ensures pending { let here = option_map (λ x. x.now.state) local.entry in
             let c = self.old.pending in
-            OnOk result (self.new.pending ≡ with_marks U batch.now (item_view change.now) marks.entry here c) }
+            OnOk result (self.new.pending ≡ with_marks U batch.now change.now marks.entry here c) }
         ensures entries { let entry = quiet_entry change.now.id marks.entry in
             OnOk result (self.new.entries ≡ self.old.entries ++ entry ∷ []) }
         ensures budget { OnOk result (self.new.budget ≡ reduced self.old.budget 1) }
@@ -124,8 +123,8 @@ impl<const U: usize> Work<U> {
         requires some { 1 ≤ U }
         requires rising { AreRising self.old.pending.puts }
         ensures pending { let c = self.old.pending in
-            let here = option_map (λ x. state_view x.now.state) local.entry in
-            let puts = put_taken U marks.now (item_view change.now) here c.puts in
+            let here = option_map (λ x. x.now.state) local.entry in
+            let puts = put_taken U marks.now change.now here c.puts in
             OnOk result (self.new.pending ≡ record c { puts = puts }) }
         ensures entries { OnOk result (self.new.entries ≡ self.old.entries) }
         ensures budget { OnOk result (self.new.budget ≡ self.old.budget) }
@@ -199,9 +198,9 @@ fn taken_item<const U: usize>(
     local: Option<&Item<U>>,
 ) -> Result<Item<U>, Memory>
     requires { 1 ≤ U }
-    ensures { let here = option_map (λ x. state_view x.now.state) local.entry in
-        let state = taken_state U marks.now (state_view change.now.state) here in
-        IfOk result (λ item. item_view item ≡ record { id = change.now.id; state = state }) }
+    ensures { let here = option_map (λ x. x.now.state) local.entry in
+        let state = taken_state U marks.now change.now.state here in
+        IfOk result (λ item. item ≡ record { id = change.now.id; state = state }) }
 {
     Ok(Item {
         id: change.id,

@@ -20,7 +20,8 @@ use Rattle.sfx_model.specs.Batch.{Batch, IsBatch, IsListing, IsSent, batch_from,
 use Rattle.sfx_model.specs.Consistent.{IsConsistent}
 use Rattle.sfx_model.specs.Events.{is_in}
 use Rattle.sfx_model.specs.Knowing.{laid_known}
-use Rattle.sfx_model.specs.Members.{ItemState, MemberItem, Member, AreRising, IsIdBelow, state_of, vector_at}
+use Rattle.sfx_item.specs.Item.{ItemState, MemberItem}
+use Rattle.sfx_model.specs.Members.{Member, AreRising, IsIdBelow, state_of, vector_at}
 use Rattle.sfx_model.specs.Readings.{is_unseen, items_from, unseen}
 use Rattle.sfx_model.specs.Sets.{Has}
 use Rattle.sfx_model.specs.World.{IsContained}

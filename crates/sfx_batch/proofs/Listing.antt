@@ -10,7 +10,8 @@ use Rattle.sfx_ids.proofs.CutOrder.{at-lt-after, le-not_lt, le_trans, lt-le, not
 use Rattle.sfx_model.proofs.Bounds.{has_filtered}
 use Rattle.sfx_model.specs.Batch.{ids_in}
 use Rattle.sfx_model.specs.Events.{is_in}
-use Rattle.sfx_model.specs.Members.{MemberItem, AreRising}
+use Rattle.sfx_item.specs.Item.{MemberItem}
+use Rattle.sfx_model.specs.Members.{AreRising}
 use Rattle.sfx_model.specs.Readings.{first_from, items_from}
 use Rattle.sfx_model.specs.Sets.{Has}
 use Rattle.sfx_provider.proofs.Walks.{ended, fewer, stepped}

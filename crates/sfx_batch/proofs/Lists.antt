@@ -6,7 +6,8 @@ use Rattle.sfx_model.proofs.Bounds.{has_filtered, has_taken}
 use Rattle.sfx_model.proofs.Rising.{before_differs, state_behind, state_here}
 use Rattle.sfx_model.proofs.Steps.{same_item_is}
 use Rattle.sfx_model.specs.Events.{same_item}
-use Rattle.sfx_model.specs.Members.{ItemState, MemberItem, AreIdsRising, AreRising, IsIdBelow, state_of}
+use Rattle.sfx_item.specs.Item.{ItemState, MemberItem}
+use Rattle.sfx_model.specs.Members.{AreIdsRising, AreRising, IsIdBelow, state_of}
 use Rattle.sfx_model.specs.Sets.{Has}
 
 -- What passes the test is among what is filtered.

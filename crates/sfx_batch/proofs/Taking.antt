@@ -4,21 +4,19 @@ use Rattle.std.proofs.lemmas.Bool.Decides.{nat_tests}
 use Rattle.std.proofs.lemmas.List.{length-map, length-take, take-map}
 use Rattle.sfx_ids.specs.declared.cut.Cut.{Cut}
 use Rattle.sfx_ids.specs.declared.cut.Cut.TheVariants.{After, End}
-use Rattle.sfx_item.specs.declared.item.Item.{Item}
 use Rattle.sfx_model.specs.Batch.{place_behind}
-use Rattle.sfx_model.specs.Items.{item_view, items_view}
-use Rattle.sfx_model.specs.Members.{MemberItem}
+use Rattle.sfx_item.specs.Item.{MemberItem}
 
 -- Behind the items is behind the last of them.
 behind_next :
-    {U : ℕ} (x : Item U) (xs : List (Item U)) (last : Item U)
-    → slice_get (x ∷ xs) (length xs) ≡ Some last → place_behind (After x.id) (items_view xs) ≡ After last.id
-behind_next {U} x [] last read = let same : x ≡ last = cc in ap (λ (z : Item U). After z.id) same
+    (x : MemberItem) (xs : List MemberItem) (last : MemberItem)
+    → slice_get (x ∷ xs) (length xs) ≡ Some last → place_behind (After x.id) xs ≡ After last.id
+behind_next x [] last read = let same : x ≡ last = cc in ap (λ (z : MemberItem). After z.id) same
 behind_next x (y ∷ ys) last read = behind_next y ys last read
 
 pub behind_last :
-    {U : ℕ} (place : Cut) (items : List (Item U)) (last : Item U)
-    → slice_get items (length items - 1) ≡ Some last → place_behind place (items_view items) ≡ After last.id
+    (place : Cut) (items : List MemberItem) (last : MemberItem)
+    → slice_get items (length items - 1) ≡ Some last → place_behind place items ≡ After last.id
 behind_last place [] last read = absurd (cc)
 behind_last place (x ∷ xs) last read =
     let end : length (x ∷ xs) - 1 ≡ length xs = omega arith in
@@ -46,16 +44,16 @@ more_of size xs few =
     grind (arith, nat_tests, given, few)
 
 pub first_taken :
-    {U : ℕ} (size : ℕ) (given : List (Item U)) (xs : List MemberItem)
-    → size < 2 ^ 64 → items_view given ≡ take (one_more size) xs
-    → items_view (take size given) ≡ take size xs
+    (size : ℕ) (given : List MemberItem) (xs : List MemberItem)
+    → size < 2 ^ 64 → given ≡ take (one_more size) xs
+    → (take size given) ≡ take size xs
 first_taken size given xs fits is =
-    sym (take-map item_view size given) ∙ ap (take size) is ∙ taken_of size (one_more size) xs (omega (arith, fits))
+    sym (take-map size given) ∙ ap (take size) is ∙ taken_of size (one_more size) xs (omega (arith, fits))
 
 pub end_taken :
-    {U : ℕ} (size : ℕ) (given : List (Item U)) (xs : List MemberItem) (end : Cut)
-    → size < 2 ^ 64 → length given < 2 ^ 63 → items_view given ≡ take (one_more size) xs
-    → end ≡ (if nat_lt size (length given) then place_behind End (items_view (take size given)) else End)
+    (size : ℕ) (given : List MemberItem) (xs : List MemberItem) (end : Cut)
+    → size < 2 ^ 64 → length given < 2 ^ 63 → given ≡ take (one_more size) xs
+    → end ≡ (if nat_lt size (length given) then place_behind End (take size given) else End)
     → end ≡ (if nat_lt size (length xs) then place_behind End (take size xs) else End)
 end_taken size given xs end fits few is ends =
     let many : length given ≡ length (take (one_more size) xs) = sym (length-map given item_view) ∙ ap length is in

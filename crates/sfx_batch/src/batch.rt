@@ -2,7 +2,6 @@ ghost use Rattle.std.specs.Prelude.{◌≡◌, ◌↔◌, IsTrue, IfOk};
 ghost use Rattle.sfx_ids.specs.declared.cut.Cut.TheVariants.{End};
 ghost use Rattle.sfx_knowledge.specs.Knowledge.{HasTicks, IsKnowledge, projected, tick_at};
 ghost use Rattle.sfx_model.specs.Batch.{IsBatch};
-ghost use Rattle.sfx_model.specs.Items.{items_view};
 
 use sfx_ids::{Cut, ItemId, Memory, ReplicaId};
 use sfx_item::Item;
@@ -31,13 +30,12 @@ pub struct Batch<const U: usize> {
 
 impl<const U: usize> Model for Batch<U> {
     ghost use Rattle.sfx_model.specs.Batch.{Batch, IsBatch};
-    ghost use Rattle.sfx_model.specs.Items.{items_view};
 
     ghost Value = { Batch };
 
-    ghost view = { λ b. record { source = b.source; mode = b.mode; from = b.from; to = b.to; made_with = b.made_with; forgotten = b.forgotten; changes = items_view b.changes.items; here = b.here.items } };
+    ghost view = { λ b. record { source = b.source; mode = b.mode; from = b.from; to = b.to; made_with = b.made_with; forgotten = b.forgotten; changes = b.changes.items; here = b.here.items } };
 
-    ghost invariant = { λ b. IsBatch U (record { source = b.source; mode = b.mode; from = b.from; to = b.to; made_with = b.made_with; forgotten = b.forgotten; changes = items_view b.changes.items; here = b.here.items }) };
+    ghost invariant = { λ b. IsBatch U (record { source = b.source; mode = b.mode; from = b.from; to = b.to; made_with = b.made_with; forgotten = b.forgotten; changes = b.changes.items; here = b.here.items }) };
 }
 
 impl<const U: usize> Batch<U> {
@@ -107,7 +105,7 @@ impl<const U: usize> Batch<U> {
 
     /// Equal lists of the changes and of the ids, of their own memory.
     fn copied_lists(&self, alloc: Global) -> Result<(Vec<Item<U>>, Vec<ItemId>), Memory>
-        ensures changes { IfOk result (λ lists. items_view lists.0.items ≡ self.now.changes) }
+        ensures changes { IfOk result (λ lists. lists.0.items ≡ self.now.changes) }
         ensures here { IfOk result (λ lists. lists.1.items ≡ self.now.here) }
     {
         let changes = copies(alloc, self.changes.as_slice())?;

@@ -3,7 +3,6 @@ ghost use Rattle.std.specs.Prelude.{◌≡◌, ◌≤◌, if◌then◌else◌, n
 ghost use Rattle.sfx_batch.specs.Fault.{blames_source};
 ghost use Rattle.sfx_ids.specs.declared.cut.Cut.TheVariants.{End};
 ghost use Rattle.sfx_model.specs.Batch.{batch_from, due, due_end, ids_in, listed_ids, place_behind};
-ghost use Rattle.sfx_model.specs.Items.{items_view};
 ghost use Rattle.sfx_model.specs.Readings.{first_from};
 ghost use Rattle.sfx_provider.specs.Fault.{HasCause, blames_storage};
 ghost use Rattle.sfx_provider.specs.Leaves.{Rests};
@@ -89,7 +88,7 @@ fn due_changes<const U: usize, P: Provider<U>>(
     from: &Cut,
     size: usize,
 ) -> Result<(Vec<Item<U>>, Cut), ProviderFault>
-    ensures changes { IfOk result (λ r. items_view r.0.items ≡
+    ensures changes { IfOk result (λ r. r.0.items ≡
         due U size known.now from.now (P.state source.old).items) }
     ensures end { IfOk result (λ r. r.1 ≡ due_end U size known.now from.now (P.state source.old).items) }
     ensures rests { Rests P.state P.kept P.settled P.came source.old source.new }
@@ -105,7 +104,7 @@ fn due_changes<const U: usize, P: Provider<U>>(
 fn cut_short<const U: usize>(items: &mut Vec<Item<U>>, size: usize) -> Cut
     ensures items { items.new.items ≡ take size items.old.items }
     ensures end { result ≡ (if nat_lt size (length items.old.items)
-        then place_behind End (items_view (take size items.old.items)) else End) }
+        then place_behind End (take size items.old.items) else End) }
 {
     if items.len() <= size {
         return Cut::End;
@@ -116,7 +115,7 @@ fn cut_short<const U: usize>(items: &mut Vec<Item<U>>, size: usize) -> Cut
 
 /// The cut behind the last of the items, and the end where there is none.
 fn place_behind<const U: usize>(items: &[Item<U>]) -> Cut
-    ensures { result ≡ place_behind End (items_view items.now) }
+    ensures { result ≡ place_behind End items.now }
 {
     match items.last() {
         Some(item) => Cut::After(item.id),

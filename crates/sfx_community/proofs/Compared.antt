@@ -17,7 +17,8 @@ use Rattle.sfx_knowledge.specs.Forms.{same_clocks, same_exceptions, same_row}
 use Rattle.sfx_knowledge.proofs.Clocks.{same_clocks-is, same_clocks-self}
 use Rattle.sfx_model.specs.Events.{same_item}
 use Rattle.sfx_model.specs.Headline.{live_items}
-use Rattle.sfx_model.specs.Members.{ItemState, Live, Dead, Member, MemberItem}
+use Rattle.sfx_item.specs.Item.{ItemState, Live, Dead, MemberItem}
+use Rattle.sfx_model.specs.Members.{Member}
 use Rattle.sfx_model.proofs.Steps.{same_item_is, same_item_self}
 use Rattle.sfx_model.specs.Knowing.{laid_known}
 use Rattle.sfx_reply.specs.declared.reply.Reply.TheVariants.{Compared}

@@ -22,7 +22,8 @@ use Rattle.sfx_model.specs.declared.mode.Mode.TheVariants.{Normal, Recover}
 use Rattle.sfx_model.specs.Acting.{DeedsContinue, IsOrderly}
 use Rattle.sfx_model.specs.Batch.{mode_of}
 use Rattle.sfx_model.specs.Knowing.{ahead_of, laid_known}
-use Rattle.sfx_model.specs.Members.{ItemState, Live, Dead, Member, NamedMember, Community, RepresentsWorld, RepresentsAll, contains, state_of}
+use Rattle.sfx_item.specs.Item.{ItemState, Live, Dead}
+use Rattle.sfx_model.specs.Members.{Member, NamedMember, Community, RepresentsWorld, RepresentsAll, contains, state_of}
 use Rattle.sfx_model.specs.Sets.{Has}
 use Rattle.sfx_model.specs.States.{Continues, Rises, IsNewState, next_item, next_version, created_contents, edited_contents}
 use Rattle.sfx_model.specs.World.{World, Site, WellFormed}

@@ -12,7 +12,8 @@ use Rattle.sfx_knowledge.specs.Forgotten.{AreForgets, nothing_forgotten}
 use Rattle.sfx_knowledge.proofs.Known.{IsKnowledge-nothing}
 use Rattle.sfx_model.specs.Acting.{IsOrderly}
 use Rattle.sfx_model.specs.Consistent.{AreApart, live_name}
-use Rattle.sfx_model.specs.Members.{Community, Live, Member, MemberItem, NamedMember, AreRising, RepresentsWorld, state_of}
+use Rattle.sfx_item.specs.Item.{Live, MemberItem}
+use Rattle.sfx_model.specs.Members.{Community, Member, NamedMember, AreRising, RepresentsWorld, state_of}
 use Rattle.sfx_model.specs.Readings.{first_clash}
 use Rattle.sfx_model.specs.Sets.{Has}
 use Rattle.sfx_model.specs.States.{ChangesMember, cells_with, next_created, next_item, next_version, with_item, with_member, with_state}

@@ -9,7 +9,8 @@ use Rattle.sfx_knowledge.specs.Knowledge.{Known}
 use Rattle.sfx_knowledge.specs.Forms.{same_row}
 use Rattle.sfx_model.specs.Events.{same_item}
 use Rattle.sfx_model.specs.Headline.{live_items}
-use Rattle.sfx_model.specs.Members.{ItemState, Live, Dead, Member, MemberItem}
+use Rattle.sfx_item.specs.Item.{ItemState, Live, Dead, MemberItem}
+use Rattle.sfx_model.specs.Members.{Member}
 use Rattle.sfx_model.specs.Knowing.{laid_known}
 
 -- Both cuts are the same.

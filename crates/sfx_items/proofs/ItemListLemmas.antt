@@ -20,10 +20,9 @@ use Rattle.sfx_ids.specs.declared.cut.Cut.TheVariants.{At}
 use Rattle.sfx_ids.specs.declared.item_id.ItemId.{ItemId}
 use Rattle.sfx_ids.specs.Cut.{cut_cmp, cut_le, cut_lt}
 use Rattle.sfx_ids.proofs.CutOrder.{cut_exact, le-not_lt, lt-not_le, lt-self, lt_trans, le_lt_trans, lt-le, not_le, not_lt}
-use Rattle.sfx_item.specs.declared.item.Item.{Item}
 use Rattle.sfx_model.specs.Events.{same_item}
-use Rattle.sfx_model.specs.Items.{item_view, items_view, state_view}
-use Rattle.sfx_model.specs.Members.{AreIdsRising, AreRising, IsIdBelow, ItemState, MemberItem, state_of}
+use Rattle.sfx_item.specs.Item.{ItemState, MemberItem}
+use Rattle.sfx_model.specs.Members.{AreIdsRising, AreRising, IsIdBelow, state_of}
 use Rattle.sfx_model.specs.Putting.{drop_all, drop_item, put_all, put_for, put_item, with_state_of}
 use Rattle.sfx_model.specs.Readings.{first_from}
 use Rattle.sfx_model.specs.Sets.{Has}
@@ -53,114 +52,114 @@ below_cut a b lt = below_is a b (sym (test_below a b) ∙ lt)
 
 -- ---- where an item stands
 
-at_has : {U : ℕ} (xs : List (Item U)) (k : ℕ) (d : Item U) → k < length xs → Has (item_view (get_or xs k d)) (items_view xs)
+at_has : (xs : List MemberItem) (k : ℕ) (d : MemberItem) → k < length xs → Has (get_or xs k d) xs
 at_has [] k d inside = absurd (omega arith)
 at_has (x ∷ xs) zero d inside = inl refl
 at_has (x ∷ xs) (suc k) d inside = inr (at_has xs k d (omega arith))
 
 -- The items before a cut are at most all.
-pub count_within : {U : ℕ} (cut : Cut) (xs : List (Item U)) → count_before cut (items_view xs) ≤ length xs
+pub count_within : (cut : Cut) (xs : List MemberItem) → count_before cut xs ≤ length xs
 count_within cut [] = omega arith
 count_within cut (x ∷ xs) = by_test (count_within cut xs) (cut_lt (At x.id) cut)
   where
     by_test :
-        count_before cut (items_view xs) ≤ length xs
-        → (b : Bool) → (if b then suc (count_before cut (items_view xs)) else zero) ≤ suc (length xs)
+        count_before cut xs ≤ length xs
+        → (b : Bool) → (if b then suc (count_before cut xs) else zero) ≤ suc (length xs)
     by_test rest true = omega (arith, rest)
     by_test rest false = omega arith
 
 -- Each of them is before it, and so is no other.
 counted :
-    {U : ℕ} (cut : Cut) (xs : List (Item U)) (k : ℕ) (d : Item U)
-    → k < count_before cut (items_view xs) → cut_lt (At (get_or xs k d).id) cut ≡ true
+    (cut : Cut) (xs : List MemberItem) (k : ℕ) (d : MemberItem)
+    → k < count_before cut xs → cut_lt (At (get_or xs k d).id) cut ≡ true
 counted cut [] k d low = absurd (omega arith)
-counted {U} cut (x ∷ xs) k d low = by_test k (counted cut xs) (cut_lt (At x.id) cut) refl low
+counted cut (x ∷ xs) k d low = by_test k (counted cut xs) (cut_lt (At x.id) cut) refl low
   where
     by_test :
         (n : ℕ)
-        → ((j : ℕ) (e : Item U) → j < count_before cut (items_view xs) → cut_lt (At (get_or xs j e).id) cut ≡ true)
-        → (b : Bool) → cut_lt (At x.id) cut ≡ b → n < (if b then suc (count_before cut (items_view xs)) else zero)
+        → ((j : ℕ) (e : MemberItem) → j < count_before cut xs → cut_lt (At (get_or xs j e).id) cut ≡ true)
+        → (b : Bool) → cut_lt (At x.id) cut ≡ b → n < (if b then suc (count_before cut xs) else zero)
         → cut_lt (At (get_or (x ∷ xs) n d).id) cut ≡ true
     by_test zero rest true e l = e
     by_test (suc j) rest true e l = rest j d (omega (arith, l))
     by_test n rest false e l = absurd (omega (arith, l))
 
 is_counted :
-    {U : ℕ} (cut : Cut) (xs : List (Item U)) (k : ℕ) (d : Item U)
-    → AreRising (items_view xs) → k < length xs → cut_lt (At (get_or xs k d).id) cut ≡ true
-    → k < count_before cut (items_view xs)
+    (cut : Cut) (xs : List MemberItem) (k : ℕ) (d : MemberItem)
+    → AreRising xs → k < length xs → cut_lt (At (get_or xs k d).id) cut ≡ true
+    → k < count_before cut xs
 is_counted cut [] k d rising inside lt = absurd (omega arith)
 is_counted cut (x ∷ xs) zero d rising inside lt = rw lt (omega arith)
 is_counted cut (x ∷ xs) (suc k) d rising inside lt =
     let rest = is_counted cut xs k d rising.1 (omega arith) lt in
-    let below = rising.0 (item_view (get_or xs k d)) (at_has xs k d (omega arith)) in
+    let below = rising.0 (get_or xs k d) (at_has xs k d (omega arith)) in
     let first : cut_lt (At x.id) cut ≡ true = lt_trans (At x.id) (At (get_or xs k d).id) cut (cut_below x.id (get_or xs k d).id below) lt in
     rw first (omega (arith, rest))
 
 -- An item stands behind those that are before its own cut.
 pub count_at :
-    {U : ℕ} (xs : List (Item U)) (k : ℕ) (d : Item U)
-    → AreRising (items_view xs) → k < length xs → count_before (At (get_or xs k d).id) (items_view xs) ≡ k
+    (xs : List MemberItem) (k : ℕ) (d : MemberItem)
+    → AreRising xs → k < length xs → count_before (At (get_or xs k d).id) xs ≡ k
 count_at [] k d rising inside = absurd (omega arith)
 count_at (x ∷ xs) zero d rising inside = rw (lt-self (At x.id)) refl
 count_at (x ∷ xs) (suc k) d rising inside =
-    let below = rising.0 (item_view (get_or xs k d)) (at_has xs k d (omega arith)) in
+    let below = rising.0 (get_or xs k d) (at_has xs k d (omega arith)) in
     rw (cut_below x.id (get_or xs k d).id below) (ap suc (count_at xs k d rising.1 (omega arith)))
 
 position_at :
-    {U : ℕ} (xs : List (Item U)) (n k : ℕ) (d : Item U)
-    → AreRising (items_view xs) → k < length xs → position_from (has_id (get_or xs k d).id) n xs ≡ Some (n + k)
+    (xs : List MemberItem) (n k : ℕ) (d : MemberItem)
+    → AreRising xs → k < length xs → position_from (has_id (get_or xs k d).id) n xs ≡ Some (n + k)
 position_at [] n k d rising inside = absurd (omega arith)
 position_at (x ∷ xs) n zero d rising inside =
     let here : n ≡ n + zero = omega arith in rw (same_item_self x.id) (ap (λ (j : ℕ). Some j) here)
 position_at (x ∷ xs) n (suc k) d rising inside =
-    let below = rising.0 (item_view (get_or xs k d)) (at_has xs k d (omega arith)) in
+    let below = rising.0 (get_or xs k d) (at_has xs k d (omega arith)) in
     let next : n + 1 + k ≡ n + suc k = omega arith in
     rw (other_item x.id (get_or xs k d).id (before_differs x.id (get_or xs k d).id below))
     (position_at xs (n + 1) k d rising.1 (omega arith) ∙ ap (λ (j : ℕ). Some j) next)
 
 -- No item has an id that is before all of them, nor one that is before the first that is not before it.
 none_above :
-    {U : ℕ} (xs : List (Item U)) (i : ItemId) (n : ℕ)
-    → ((y : MemberItem) → Has y (items_view xs) → IsIdBelow i y.id) → position_from (has_id i) n xs ≡ None
+    (xs : List MemberItem) (i : ItemId) (n : ℕ)
+    → ((y : MemberItem) → Has y xs → IsIdBelow i y.id) → position_from (has_id i) n xs ≡ None
 none_above [] i n above = refl
 none_above (x ∷ xs) i n above =
-    rw (other_item x.id i (λ same. before_differs i x.id (above (item_view x) (inl refl)) (sym same)))
+    rw (other_item x.id i (λ same. before_differs i x.id (above x (inl refl)) (sym same)))
     (none_above xs i (n + 1) (λ y has. above y (inr has)))
 
 position_none :
-    {U : ℕ} (xs : List (Item U)) (i : ItemId) (n : ℕ)
-    → AreRising (items_view xs)
-    → (count_before (At i) (items_view xs) < length xs
-    → (d : Item U) → cut_lt (At i) (At (get_or xs (count_before (At i) (items_view xs)) d).id) ≡ true)
+    (xs : List MemberItem) (i : ItemId) (n : ℕ)
+    → AreRising xs
+    → (count_before (At i) xs < length xs
+    → (d : MemberItem) → cut_lt (At i) (At (get_or xs (count_before (At i) xs) d).id) ≡ true)
     → position_from (has_id i) n xs ≡ None
 position_none [] i n rising next = refl
-position_none {U} (x ∷ xs) i n rising next = by_test (position_none xs i (n + 1) rising.1) (cut_lt (At x.id) (At i)) refl next
+position_none (x ∷ xs) i n rising next = by_test (position_none xs i (n + 1) rising.1) (cut_lt (At x.id) (At i)) refl next
   where
     by_test :
-        ((count_before (At i) (items_view xs) < length xs
-        → (d : Item U) → cut_lt (At i) (At (get_or xs (count_before (At i) (items_view xs)) d).id) ≡ true)
+        ((count_before (At i) xs < length xs
+        → (d : MemberItem) → cut_lt (At i) (At (get_or xs (count_before (At i) xs) d).id) ≡ true)
         → position_from (has_id i) (n + 1) xs ≡ None)
         → (b : Bool) → cut_lt (At x.id) (At i) ≡ b
-        → ((if b then suc (count_before (At i) (items_view xs)) else zero) < suc (length xs)
-        → (d : Item U) → cut_lt (At i) (At (get_or (x ∷ xs) (if b then suc (count_before (At i) (items_view xs)) else zero) d).id) ≡ true)
+        → ((if b then suc (count_before (At i) xs) else zero) < suc (length xs)
+        → (d : MemberItem) → cut_lt (At i) (At (get_or (x ∷ xs) (if b then suc (count_before (At i) xs) else zero) d).id) ≡ true)
         → position_from (has_id i) n (x ∷ xs) ≡ None
     by_test rest true lt h =
         rw (other_item x.id i (before_differs x.id i (below_cut x.id i lt))) (rest (λ low. h (omega (arith, low))))
     by_test rest false lt h =
         let above : IsIdBelow i x.id = below_cut i x.id (h (omega arith) x) in
-        none_above (x ∷ xs) i n (before_all i (item_view x) (items_view xs) above rising)
+        none_above (x ∷ xs) i n (before_all i x xs above rising)
 
 -- ---- the search by halves
 
 -- How far a search has come: so many items at the front are before the cut, and from so many on none is.
-pub record IsNarrowed {U : ℕ} (cut : Cut) (xs : List (Item U)) (low high : ℕ) : Type 0 where
-  pub low_is : low ≤ count_before cut (items_view xs)
-  pub high_is : count_before cut (items_view xs) ≤ high
+pub record IsNarrowed (cut : Cut) (xs : List MemberItem) (low high : ℕ) : Type 0 where
+  pub low_is : low ≤ count_before cut xs
+  pub high_is : count_before cut xs ≤ high
   pub inside : high ≤ length xs
-  pub next : high < length xs → (d : Item U) → cut_lt cut (At (get_or xs high d).id) ≡ true
+  pub next : high < length xs → (d : MemberItem) → cut_lt cut (At (get_or xs high d).id) ≡ true
 
-pub all_open : {U : ℕ} (cut : Cut) (xs : List (Item U)) → IsNarrowed cut xs 0 (length xs)
+pub all_open : (cut : Cut) (xs : List MemberItem) → IsNarrowed cut xs 0 (length xs)
 all_open cut xs = record {
   low_is = omega arith;
   high_is = count_within cut xs;
@@ -170,8 +169,8 @@ all_open cut xs = record {
 
 -- The item looked at is before the cut, or behind it.
 pub narrowed_low :
-    {U : ℕ} (cut : Cut) (xs : List (Item U)) (low high middle : ℕ) (d : Item U)
-    → AreRising (items_view xs) → IsNarrowed cut xs low high → middle < high
+    (cut : Cut) (xs : List MemberItem) (low high middle : ℕ) (d : MemberItem)
+    → AreRising xs → IsNarrowed cut xs low high → middle < high
     → cut_lt (At (get_or xs middle d).id) cut ≡ true → IsNarrowed cut xs (middle + 1) high
 narrowed_low cut xs low high middle d rising so_far less lt =
     let inside = so_far.inside in
@@ -183,18 +182,18 @@ narrowed_low cut xs low high middle d rising so_far less lt =
     }
 
 not_past :
-    {U : ℕ} (cut : Cut) (xs : List (Item U)) (middle : ℕ) (d : Item U)
-    → cut_lt (At (get_or xs middle d).id) cut ≡ false → count_before cut (items_view xs) ≤ middle
-not_past cut xs middle d not = elim (cases_lt middle (count_before cut (items_view xs))) [
+    (cut : Cut) (xs : List MemberItem) (middle : ℕ) (d : MemberItem)
+    → cut_lt (At (get_or xs middle d).id) cut ≡ false → count_before cut xs ≤ middle
+not_past cut xs middle d not = elim (cases_lt middle (count_before cut xs)) [
   | inl past ↦ absurd (true≢false (sym (counted cut xs middle d past) ∙ not))
   | inr most ↦ most
 ]
 
 pub narrowed_high :
-    {U : ℕ} (cut : Cut) (xs : List (Item U)) (low high middle : ℕ) (d : Item U)
+    (cut : Cut) (xs : List MemberItem) (low high middle : ℕ) (d : MemberItem)
     → IsNarrowed cut xs low high → middle < high
     → cut_le (At (get_or xs middle d).id) cut ≡ false → IsNarrowed cut xs low middle
-narrowed_high {U} cut xs low high middle d so_far less past =
+narrowed_high cut xs low high middle d so_far less past =
     let inside = so_far.inside in
     let here : middle < length xs = omega (arith, inside) in
     let lt : cut_lt cut (At (get_or xs middle d).id) ≡ true = not_le (At (get_or xs middle d).id) cut past in record {
@@ -206,12 +205,12 @@ narrowed_high {U} cut xs low high middle d so_far less past =
 
 -- Where the search ends, the item of the cut is found, or there is none.
 pub narrowed_found :
-    {U : ℕ} (cut : Cut) (xs : List (Item U)) (middle : ℕ) (d : Item U)
-    → AreRising (items_view xs) → middle < length xs → cut_cmp (At (get_or xs middle d).id) cut ≡ Equal
-    → (middle ≡ count_before cut (items_view xs)) × ((i : ItemId) → cut ≡ At i → position_from (has_id i) 0 xs ≡ Some middle)
-narrowed_found {U} cut xs middle d rising inside equal =
+    (cut : Cut) (xs : List MemberItem) (middle : ℕ) (d : MemberItem)
+    → AreRising xs → middle < length xs → cut_cmp (At (get_or xs middle d).id) cut ≡ Equal
+    → (middle ≡ count_before cut xs) × ((i : ItemId) → cut ≡ At i → position_from (has_id i) 0 xs ≡ Some middle)
+narrowed_found cut xs middle d rising inside equal =
     let there : At (get_or xs middle d).id ≡ cut = cut_exact (At (get_or xs middle d).id) cut equal in (
-      sym (subst (λ (c : Cut). count_before c (items_view xs) ≡ middle) there (count_at xs middle d rising inside)),
+      sym (subst (λ (c : Cut). count_before c xs ≡ middle) there (count_at xs middle d rising inside)),
       λ i at.
           let id : (get_or xs middle d).id ≡ i = let e = there ∙ at in cc in
           let none : 0 + middle ≡ middle = omega arith in
@@ -220,18 +219,18 @@ narrowed_found {U} cut xs middle d rising inside equal =
     )
 
 pub narrowed_none :
-    {U : ℕ} (cut : Cut) (xs : List (Item U)) (low high : ℕ)
-    → AreRising (items_view xs) → IsNarrowed cut xs low high → high ≤ low
-    → (low ≡ count_before cut (items_view xs)) × ((i : ItemId) → cut ≡ At i → position_from (has_id i) 0 xs ≡ None)
-narrowed_none {U} cut xs low high rising so_far closed =
+    (cut : Cut) (xs : List MemberItem) (low high : ℕ)
+    → AreRising xs → IsNarrowed cut xs low high → high ≤ low
+    → (low ≡ count_before cut xs) × ((i : ItemId) → cut ≡ At i → position_from (has_id i) 0 xs ≡ None)
+narrowed_none cut xs low high rising so_far closed =
     let low_is = so_far.low_is in
     let high_is = so_far.high_is in
-    let count : high ≡ count_before cut (items_view xs) = omega (arith, low_is, high_is) in (
+    let count : high ≡ count_before cut xs = omega (arith, low_is, high_is) in (
       omega (arith, low_is, high_is),
       λ i at.
           position_none xs i 0 rising
-          (subst (λ (c : Cut). count_before c (items_view xs) < length xs → (d : Item U) → cut_lt c (At (get_or xs (count_before c (items_view xs)) d).id) ≡ true)
-          at (subst (λ (n : ℕ). n < length xs → (d : Item U) → cut_lt cut (At (get_or xs n d).id) ≡ true) count so_far.next)),
+          (subst (λ (c : Cut). count_before c xs < length xs → (d : MemberItem) → cut_lt c (At (get_or xs (count_before c xs) d).id) ≡ true)
+          at (subst (λ (n : ℕ). n < length xs → (d : MemberItem) → cut_lt cut (At (get_or xs n d).id) ≡ true) count so_far.next)),
     )
 
 -- How many comparisons there were: each halves what is left.
@@ -261,21 +260,21 @@ halved items left more done so_far some half =
 
 -- The item with this id stands at place k: its state and its id, and what the list is with another in its
 -- place, and without it.
-pub record IsPlace {U : ℕ} (xs : List (Item U)) (i : ItemId) (k : ℕ) : Type 0 where
+pub record IsPlace (xs : List MemberItem) (i : ItemId) (k : ℕ) : Type 0 where
   pub inside : k < length xs
-  pub state : (d : Item U) → state_of (items_view xs) i ≡ Some (state_view (get_or xs k d).state)
-  pub id : (d : Item U) → (get_or xs k d).id ≡ i
-  pub put : (y : Item U) → y.id ≡ i → items_view (set xs k y) ≡ with_state i (state_view y.state) (items_view xs)
-  pub removed : items_view (remove xs k) ≡ drop_item i (items_view xs)
+  pub state : (d : MemberItem) → state_of xs i ≡ Some (get_or xs k d).state
+  pub id : (d : MemberItem) → (get_or xs k d).id ≡ i
+  pub put : (y : MemberItem) → y.id ≡ i → (set xs k y) ≡ with_state i y.state xs
+  pub removed : (remove xs k) ≡ drop_item i xs
 
 abbrev item_with : ItemId → ItemState → MemberItem
 item_with id state = record { id = id; state = state }
 
 place_found :
-    {U : ℕ} (xs : List (Item U)) (i : ItemId) (n k : ℕ)
+    (xs : List MemberItem) (i : ItemId) (n k : ℕ)
     → position_from (has_id i) n xs ≡ Some k → (j : ℕ) × (k ≡ n + j) × IsPlace xs i j
 place_found [] i n k e = absurd (cc)
-place_found {U} (x ∷ xs) i n k e = by_test (place_found xs i (n + 1) k) (same_item x.id i) refl e
+place_found (x ∷ xs) i n k e = by_test (place_found xs i (n + 1) k) (same_item x.id i) refl e
   where
     by_test :
         (position_from (has_id i) (n + 1) xs ≡ Some k → (j : ℕ) × (k ≡ n + 1 + j) × IsPlace xs i j)
@@ -291,8 +290,8 @@ place_found {U} (x ∷ xs) i n k e = by_test (place_found xs i (n + 1) k) (same_
             id = λ d. same_item_is x.id i test;
             put = λ y same.
                 rw test
-                (let made : item_with y.id (state_view y.state) ≡ item_with x.id (state_view y.state) = rw (same, same_item_is x.id i test) refl in
-                ap (λ (z : MemberItem). z ∷ items_view xs) made);
+                (let made : item_with y.id y.state ≡ item_with x.id y.state = rw (same, same_item_is x.id i test) refl in
+                ap (λ (z : MemberItem). z ∷ xs) made);
             removed = rw test refl;
           },
         )
@@ -306,27 +305,27 @@ place_found {U} (x ∷ xs) i n k e = by_test (place_found xs i (n + 1) k) (same_
             inside = let low = is.inside in omega (arith, low);
             state = λ d. rw test (is.state d);
             id = is.id;
-            put = λ y same. rw test (ap (λ (zs : List MemberItem). item_view x ∷ zs) (is.put y same));
-            removed = rw test (ap (λ (zs : List MemberItem). item_view x ∷ zs) is.removed);
+            put = λ y same. rw test (ap (λ (zs : List MemberItem). x ∷ zs) (is.put y same));
+            removed = rw test (ap (λ (zs : List MemberItem). x ∷ zs) is.removed);
           },
         )
 
 place_none :
-    {U : ℕ} (xs : List (Item U)) (i : ItemId) (n : ℕ)
-    → position_from (has_id i) n xs ≡ None → state_of (items_view xs) i ≡ None
+    (xs : List MemberItem) (i : ItemId) (n : ℕ)
+    → position_from (has_id i) n xs ≡ None → state_of xs i ≡ None
 place_none [] i n e = refl
 place_none (x ∷ xs) i n e = by_test (place_none xs i (n + 1)) (same_item x.id i) refl e
   where
     by_test :
-        (position_from (has_id i) (n + 1) xs ≡ None → state_of (items_view xs) i ≡ None)
+        (position_from (has_id i) (n + 1) xs ≡ None → state_of xs i ≡ None)
         → (b : Bool) → same_item x.id i ≡ b → cond b (Some n) (position_from (has_id i) (n + 1) xs) ≡ None
-        → state_of (items_view (x ∷ xs)) i ≡ None
+        → state_of (x ∷ xs) i ≡ None
     by_test rest true test e = absurd (cc)
     by_test rest false test e = rw test (rest e)
 
 -- What a search for an id answers is its place, or says that there is none.
 pub at_place :
-    {U : ℕ} (xs ys : List (Item U)) (i : ItemId) (k : ℕ) (r : Option ℕ)
+    (xs ys : List MemberItem) (i : ItemId) (k : ℕ) (r : Option ℕ)
     → ys ≡ xs → r ≡ position_from (has_id i) 0 ys → r ≡ Some k → IsPlace xs i k
 at_place xs ys i k r same searched found =
     let first : position_from (has_id i) 0 xs ≡ Some k = rw (← same) (sym searched ∙ found) in
@@ -335,64 +334,60 @@ at_place xs ys i k r same searched found =
     rw (← at) place.2
 
 pub not_there :
-    {U : ℕ} (xs ys : List (Item U)) (i : ItemId) (r : Option ℕ)
-    → ys ≡ xs → r ≡ position_from (has_id i) 0 ys → r ≡ None → state_of (items_view xs) i ≡ None
+    (xs ys : List MemberItem) (i : ItemId) (r : Option ℕ)
+    → ys ≡ xs → r ≡ position_from (has_id i) 0 ys → r ≡ None → state_of xs i ≡ None
 not_there xs ys i r same searched none = place_none xs i 0 (rw (← same) (sym searched ∙ none))
 
 -- The same of a search that answers a place, and whether the item stands there.
 pub at_found :
-    {U : ℕ} (xs ys : List (Item U)) (i : ItemId) (k : ℕ) (exact : Bool)
+    (xs ys : List MemberItem) (i : ItemId) (k : ℕ) (exact : Bool)
     → ys ≡ xs → position_from (has_id i) 0 ys ≡ (if exact then Some k else None) → exact ≡ true → IsPlace xs i k
 at_found xs ys i k exact same searched found =
     at_place xs ys i k (if exact then Some k else None) same (sym searched) (rw found refl)
 
 pub none_found :
-    {U : ℕ} (xs ys : List (Item U)) (i : ItemId) (k : ℕ) (exact : Bool)
-    → ys ≡ xs → position_from (has_id i) 0 ys ≡ (if exact then Some k else None) → exact ≡ false → state_of (items_view xs) i ≡ None
+    (xs ys : List MemberItem) (i : ItemId) (k : ℕ) (exact : Bool)
+    → ys ≡ xs → position_from (has_id i) 0 ys ≡ (if exact then Some k else None) → exact ≡ false → state_of xs i ≡ None
 none_found xs ys i k exact same searched found =
     not_there xs ys i (if exact then Some k else None) same (sym searched) (rw found refl)
 
 -- The item that stands there: its state and its id.
 pub state_there :
-    {U : ℕ} (xs : List (Item U)) (i : ItemId) (k : ℕ) (old : Item U)
-    → IsPlace xs i k → old ≡ get_or xs k old → state_of (items_view xs) i ≡ Some (state_view old.state)
-state_there xs i k old place is = place.state old ∙ ap (λ (x : Item _). Some (state_view x.state)) (sym is)
+    (xs : List MemberItem) (i : ItemId) (k : ℕ) (old : MemberItem)
+    → IsPlace xs i k → old ≡ get_or xs k old → state_of xs i ≡ Some old.state
+state_there xs i k old place is = place.state old ∙ ap (λ (x : MemberItem). Some x.state) (sym is)
 
 pub id_there :
-    {U : ℕ} (xs : List (Item U)) (i : ItemId) (k : ℕ) (old : Item U)
+    (xs : List MemberItem) (i : ItemId) (k : ℕ) (old : MemberItem)
     → IsPlace xs i k → old ≡ get_or xs k old → old.id ≡ i
-id_there xs i k old place is = ap (λ (x : Item _). x.id) is ∙ place.id old
+id_there xs i k old place is = ap (λ (x : MemberItem). x.id) is ∙ place.id old
 
 -- ---- the first item from a place, and the last before it
 
--- The item that stands at a place, where there is one.
-abbrev pub item_at : {U : ℕ} → List (Item U) → ℕ → Option MemberItem
-item_at xs k = option_map item_view (slice_get xs k)
-
 pub first_at :
-    {U : ℕ} (from : Cut) (xs : List (Item U))
-    → item_at xs (count_before from (items_view xs)) ≡ first_from from (items_view xs)
+    (from : Cut) (xs : List MemberItem)
+    → slice_get xs (count_before from xs) ≡ first_from from xs
 first_at from [] = refl
-first_at {U} from (x ∷ xs) = by_test (first_at from xs) (cut_lt (At x.id) from) (cut_le from (At x.id)) (lt-not_le (At x.id) from) (not_lt (At x.id) from)
+first_at from (x ∷ xs) = by_test (first_at from xs) (cut_lt (At x.id) from) (cut_le from (At x.id)) (lt-not_le (At x.id) from) (not_lt (At x.id) from)
   where
     by_test :
-        item_at xs (count_before from (items_view xs)) ≡ first_from from (items_view xs)
+        slice_get xs (count_before from xs) ≡ first_from from xs
         → (b c : Bool) → (b ≡ true → c ≡ false) → (b ≡ false → c ≡ true)
-        → item_at (x ∷ xs) (if b then suc (count_before from (items_view xs)) else zero)
-        ≡ (if c then Some (item_view x) else first_from from (items_view xs))
+        → slice_get (x ∷ xs) (if b then suc (count_before from xs) else zero)
+        ≡ (if c then Some x else first_from from xs)
     by_test rest true c before from_it = rw (before refl) rest
     by_test rest false c before from_it = rw (from_it refl) refl
 
 -- What is got at a place is the item there.
 pub item_got :
-    {U : ℕ} {R : Type 0} (now : R → Item U) (xs : List (Item U)) (k : ℕ) (r : Option R)
+    {R : Type 0} (now : R → MemberItem) (xs : List MemberItem) (k : ℕ) (r : Option R)
     → MatchOption r (length xs ≤ k) (λ x. (k < length xs) × HoldsAt (λ y. now x ≡ y) xs k)
-    → option_map (λ x. item_view (now x)) r ≡ item_at xs k
-item_got {U} now [] k None past = refl
-item_got {U} now (x ∷ xs) zero None past = absurd (omega (arith, past))
-item_got {U} {R} now (x ∷ xs) (suc k) None past = item_got {R = R} now xs k None (omega (arith, past))
+    → option_map (λ x. now x) r ≡ slice_get xs k
+item_got now [] k None past = refl
+item_got now (x ∷ xs) zero None past = absurd (omega (arith, past))
+item_got {R} now (x ∷ xs) (suc k) None past = item_got {R = R} now xs k None (omega (arith, past))
 item_got now [] k (Some y) there = let inside = there.0 in absurd (omega (arith, inside))
-item_got {U} now (x ∷ xs) zero (Some y) there = ap (λ (z : Item U). Some (item_view z)) (there.1 x)
+item_got now (x ∷ xs) zero (Some y) there = ap (λ (z : MemberItem). Some z) (there.1 x)
 item_got now (x ∷ xs) (suc k) (Some y) there =
     let inside = there.0 in
     item_got now xs k (Some y) (omega (arith, inside), there.1)
@@ -416,37 +411,37 @@ past_first cut x xs rising not y has = elim has [
 ]
 
 pub last_none :
-    {U : ℕ} (cut : Cut) (xs : List (Item U))
-    → AreRising (items_view xs) → count_before cut (items_view xs) ≡ 0 → last_before cut (items_view xs) ≡ None
+    (cut : Cut) (xs : List MemberItem)
+    → AreRising xs → count_before cut xs ≡ 0 → last_before cut xs ≡ None
 last_none cut [] rising none = refl
 last_none cut (x ∷ xs) rising none = by_test (cut_lt (At x.id) cut) refl none
   where
     by_test :
-        (b : Bool) → cut_lt (At x.id) cut ≡ b → (if b then suc (count_before cut (items_view xs)) else zero) ≡ 0
-        → last_before cut (items_view (x ∷ xs)) ≡ None
+        (b : Bool) → cut_lt (At x.id) cut ≡ b → (if b then suc (count_before cut xs) else zero) ≡ 0
+        → last_before cut (x ∷ xs) ≡ None
     by_test true e n = absurd (omega (arith, n))
-    by_test false e n = none_before cut (items_view (x ∷ xs)) (past_first cut (item_view x) (items_view xs) rising e)
+    by_test false e n = none_before cut (x ∷ xs) (past_first cut x xs rising e)
 
 pub last_at :
-    {U : ℕ} (cut : Cut) (xs : List (Item U)) (k : ℕ) (d : Item U)
-    → AreRising (items_view xs) → count_before cut (items_view xs) ≡ suc k
-    → last_before cut (items_view xs) ≡ Some (item_view (get_or xs k d))
+    (cut : Cut) (xs : List MemberItem) (k : ℕ) (d : MemberItem)
+    → AreRising xs → count_before cut xs ≡ suc k
+    → last_before cut xs ≡ Some (get_or xs k d)
 last_at cut [] k d rising count = absurd (omega (arith, count))
-last_at {U} cut (x ∷ xs) k d rising count = by_test (last_at cut xs) (cut_lt (At x.id) cut) refl count
+last_at cut (x ∷ xs) k d rising count = by_test (last_at cut xs) (cut_lt (At x.id) cut) refl count
   where
     by_last :
-        ((j : ℕ) (e : Item U) → AreRising (items_view xs) → count_before cut (items_view xs) ≡ suc j
-        → last_before cut (items_view xs) ≡ Some (item_view (get_or xs j e)))
-        → (n : ℕ) → count_before cut (items_view xs) ≡ n
-        → option_or (last_before cut (items_view xs)) (Some (item_view x)) ≡ Some (item_view (get_or (x ∷ xs) n d))
+        ((j : ℕ) (e : MemberItem) → AreRising xs → count_before cut xs ≡ suc j
+        → last_before cut xs ≡ Some (get_or xs j e))
+        → (n : ℕ) → count_before cut xs ≡ n
+        → option_or (last_before cut xs) (Some x) ≡ Some (get_or (x ∷ xs) n d)
     by_last rest zero none = rw (last_none cut xs rising.1 none) refl
     by_last rest (suc j) some = rw (rest j d rising.1 some) refl
 
     by_test :
-        ((j : ℕ) (e : Item U) → AreRising (items_view xs) → count_before cut (items_view xs) ≡ suc j
-        → last_before cut (items_view xs) ≡ Some (item_view (get_or xs j e)))
-        → (b : Bool) → cut_lt (At x.id) cut ≡ b → (if b then suc (count_before cut (items_view xs)) else zero) ≡ suc k
-        → option_or (last_before cut (items_view xs)) (if b then Some (item_view x) else None) ≡ Some (item_view (get_or (x ∷ xs) k d))
+        ((j : ℕ) (e : MemberItem) → AreRising xs → count_before cut xs ≡ suc j
+        → last_before cut xs ≡ Some (get_or xs j e))
+        → (b : Bool) → cut_lt (At x.id) cut ≡ b → (if b then suc (count_before cut xs) else zero) ≡ suc k
+        → option_or (last_before cut xs) (if b then Some x else None) ≡ Some (get_or (x ∷ xs) k d)
     by_test rest true e n = by_last rest k (omega (arith, n))
     by_test rest false e n = absurd (omega (arith, n))
 
@@ -454,34 +449,34 @@ last_at {U} cut (x ∷ xs) k d rising count = by_test (last_at cut xs) (cut_lt (
 
 -- An item that stands there, or one more in its place.
 pub put_there :
-    {U : ℕ} (xs : List (Item U)) (item : Item U) (k : ℕ)
-    → IsPlace xs item.id k → items_view (set xs k item) ≡ put_item (item_view item) (items_view xs)
+    (xs : List MemberItem) (item : MemberItem) (k : ℕ)
+    → IsPlace xs item.id k → (set xs k item) ≡ put_item item xs
 put_there xs item k place =
     place.put item refl
-    ∙ ap (λ (o : Option ItemState). put_for o (item_view item) (items_view xs)) (sym (place.state item))
+    ∙ ap (λ (o : Option ItemState). put_for o item xs) (sym (place.state item))
 
 inserted_view :
-    {U : ℕ} (item : Item U) (xs : List (Item U))
-    → items_view (insert xs (count_before (At item.id) (items_view xs)) item) ≡ with_item (item_view item) (items_view xs)
+    (item : MemberItem) (xs : List MemberItem)
+    → (insert xs (count_before (At item.id) xs) item) ≡ with_item item xs
 inserted_view item [] = refl
-inserted_view {U} item (x ∷ xs) =
+inserted_view item (x ∷ xs) =
     by_test (inserted_view item xs) (cut_lt (At x.id) (At item.id)) (is_id_below x.id item.id) (test_below x.id item.id)
   where
     by_test :
-        items_view (insert xs (count_before (At item.id) (items_view xs)) item) ≡ with_item (item_view item) (items_view xs)
+        (insert xs (count_before (At item.id) xs) item) ≡ with_item item xs
         → (b c : Bool) → b ≡ c
-        → items_view (insert (x ∷ xs) (if b then suc (count_before (At item.id) (items_view xs)) else zero) item)
-        ≡ (if c then item_view x ∷ with_item (item_view item) (items_view xs) else item_view item ∷ item_view x ∷ items_view xs)
-    by_test rest true c same = rw (← same) (ap (λ (zs : List MemberItem). item_view x ∷ zs) rest)
+        → (insert (x ∷ xs) (if b then suc (count_before (At item.id) xs) else zero) item)
+        ≡ (if c then x ∷ with_item item xs else item ∷ x ∷ xs)
+    by_test rest true c same = rw (← same) (ap (λ (zs : List MemberItem). x ∷ zs) rest)
     by_test rest false c same = rw (← same) refl
 
 pub put_new :
-    {U : ℕ} (xs : List (Item U)) (item : Item U) (k : ℕ)
-    → state_of (items_view xs) item.id ≡ None → k ≡ count_before (At item.id) (items_view xs)
-    → items_view (insert xs k item) ≡ put_item (item_view item) (items_view xs)
+    (xs : List MemberItem) (item : MemberItem) (k : ℕ)
+    → state_of xs item.id ≡ None → k ≡ count_before (At item.id) xs
+    → (insert xs k item) ≡ put_item item xs
 put_new xs item k none is =
     rw is (inserted_view item xs
-    ∙ ap (λ (o : Option ItemState). put_for o (item_view item) (items_view xs)) (sym none))
+    ∙ ap (λ (o : Option ItemState). put_for o item xs) (sym none))
 
 -- ---- one item taken away
 
@@ -554,98 +549,98 @@ next_last p ps rising = next_before p ps [] rising refl
 
 -- What is taken from the front of a list is its first item, and the rest is left.
 popped :
-    {U : ℕ} (x : Item U) (xs rest : List (Item U)) (r : Option (Item U))
+    (x : MemberItem) (xs rest : List MemberItem) (r : Option MemberItem)
     → x ∷ xs ≡ option_to_list r ++ rest → rest ≡ drop 1 (x ∷ xs) → (r ≡ Some x) × (rest ≡ xs)
 popped x xs rest None whole left =
     let bad : length (x ∷ xs) ≡ length (drop 1 (x ∷ xs)) = ap length (whole ∙ left) in
     absurd (omega (arith, bad))
 popped x xs rest (Some y) whole left = (cc, left)
 
-none_left : {U : ℕ} (xs : List (Item U)) → length xs ≤ 0 → xs ≡ []
+none_left : (xs : List MemberItem) → length xs ≤ 0 → xs ≡ []
 none_left [] none = refl
 none_left (x ∷ xs) none = absurd (omega (arith, none))
 
-nothing_popped : {U : ℕ} (rest : List (Item U)) (r : Option (Item U)) → [] ≡ option_to_list r ++ rest → (r ≡ None) × (rest ≡ [])
+nothing_popped : (rest : List MemberItem) (r : Option MemberItem) → [] ≡ option_to_list r ++ rest → (r ≡ None) × (rest ≡ [])
 nothing_popped rest None whole = (refl, sym whole)
 nothing_popped rest (Some y) whole = absurd (cc)
 
 is_next :
-    {U : ℕ} (x : Item U) (r : Option (Item U)) (whole rest : List MemberItem)
-    → r ≡ Some x → whole ≡ item_view x ∷ rest → IsNext r whole rest
-is_next {U} x r whole rest is first = subst (λ (o : Option (Item U)). IsNext o whole rest) (sym is) first
+    (x : MemberItem) (r : Option MemberItem) (whole rest : List MemberItem)
+    → r ≡ Some x → whole ≡ x ∷ rest → IsNext r whole rest
+is_next x r whole rest is first = subst (λ (o : Option MemberItem). IsNext o whole rest) (sym is) first
 
 -- Where one list is empty, the next item is that of the other.
 pub next_of_puts :
-    {U : ℕ} (held puts left : List (Item U)) (r : Option (Item U))
-    → AreRising (items_view puts) → length held ≤ 0 → puts ≡ option_to_list r ++ left → left ≡ drop 1 puts
-    → IsNext r (put_all (items_view puts) (items_view held)) (put_all (items_view left) (items_view held))
-next_of_puts {U} held [] left r rising none whole rest =
+    (held puts left : List MemberItem) (r : Option MemberItem)
+    → AreRising puts → length held ≤ 0 → puts ≡ option_to_list r ++ left → left ≡ drop 1 puts
+    → IsNext r (put_all puts held) (put_all left held)
+next_of_puts held [] left r rising none whole rest =
     let both = nothing_popped left r whole in
-    subst (λ (o : Option (Item U)). IsNext o (items_view held) (put_all (items_view left) (items_view held))) (sym both.0)
-    (ap items_view (none_left held none))
-next_of_puts {U} held (p ∷ ps) left r rising none whole rest =
+    subst (λ (o : Option MemberItem). IsNext o held (put_all left held)) (sym both.0)
+    ((none_left held none))
+next_of_puts held (p ∷ ps) left r rising none whole rest =
     let both = popped p ps left r whole rest in
     let empty = none_left held none in
-    is_next p r (put_all (items_view (p ∷ ps)) (items_view held)) (put_all (items_view left) (items_view held)) both.0
-    (rw (empty, both.1) (next_last (item_view p) (items_view ps) rising))
+    is_next p r (put_all (p ∷ ps) held) (put_all left held) both.0
+    (rw (empty, both.1) (next_last p ps rising))
 
 pub next_of_held :
-    {U : ℕ} (held puts left : List (Item U)) (r : Option (Item U))
+    (held puts left : List MemberItem) (r : Option MemberItem)
     → length puts ≤ 0 → held ≡ option_to_list r ++ left → left ≡ drop 1 held
-    → IsNext r (put_all (items_view puts) (items_view held)) (put_all (items_view puts) (items_view left))
-next_of_held {U} [] puts left r none whole rest =
+    → IsNext r (put_all puts held) (put_all puts left)
+next_of_held [] puts left r none whole rest =
     let both = nothing_popped left r whole in
-    subst (λ (o : Option (Item U)). IsNext o (put_all (items_view puts) []) (put_all (items_view puts) (items_view left))) (sym both.0)
+    subst (λ (o : Option MemberItem). IsNext o (put_all puts []) (put_all puts left)) (sym both.0)
     (rw (none_left puts none) refl)
-next_of_held {U} (x ∷ xs) puts left r none whole rest =
+next_of_held (x ∷ xs) puts left r none whole rest =
     let both = popped x xs left r whole rest in
-    is_next x r (put_all (items_view puts) (items_view (x ∷ xs))) (put_all (items_view puts) (items_view left)) both.0
+    is_next x r (put_all puts (x ∷ xs)) (put_all puts left) both.0
     (rw (none_left puts none, both.1) refl)
 
 -- Else it is the lower one, or that which is put, where both have one id.
 pub next_is_held :
-    {U : ℕ} (held puts left : List (Item U)) (r : Option (Item U)) (x p : Item U)
-    → AreRising (items_view puts) → 0 < length held → 0 < length puts → x ≡ get_or held 0 x → p ≡ get_or puts 0 p
+    (held puts left : List MemberItem) (r : Option MemberItem) (x p : MemberItem)
+    → AreRising puts → 0 < length held → 0 < length puts → x ≡ get_or held 0 x → p ≡ get_or puts 0 p
     → IsIdBelow x.id p.id → held ≡ option_to_list r ++ left → left ≡ drop 1 held
-    → IsNext r (put_all (items_view puts) (items_view held)) (put_all (items_view puts) (items_view left))
+    → IsNext r (put_all puts held) (put_all puts left)
 next_is_held [] puts left r x p rising some more x_is p_is below whole rest = absurd (omega arith)
 next_is_held (h ∷ hs) [] left r x p rising some more x_is p_is below whole rest = absurd (omega arith)
-next_is_held {U} (h ∷ hs) (q ∷ qs) left r x p rising some more x_is p_is below whole rest =
+next_is_held (h ∷ hs) (q ∷ qs) left r x p rising some more x_is p_is below whole rest =
     let both = popped h hs left r whole rest in
     let lower : IsIdBelow h.id q.id =
-    subst (λ (z : Item U). IsIdBelow h.id z.id) p_is (subst (λ (z : Item U). IsIdBelow z.id p.id) x_is below) in
-    is_next h r (put_all (items_view (q ∷ qs)) (items_view (h ∷ hs))) (put_all (items_view (q ∷ qs)) (items_view left)) both.0
-    (rw both.1 (next_held (item_view h) (item_view q) (items_view qs) (items_view hs) rising lower))
+    subst (λ (z : MemberItem). IsIdBelow h.id z.id) p_is (subst (λ (z : MemberItem). IsIdBelow z.id p.id) x_is below) in
+    is_next h r (put_all (q ∷ qs) (h ∷ hs)) (put_all (q ∷ qs) left) both.0
+    (rw both.1 (next_held h q qs hs rising lower))
 
 pub next_is_put :
-    {U : ℕ} (held puts left : List (Item U)) (r : Option (Item U)) (x p : Item U)
-    → AreRising (items_view held) → AreRising (items_view puts) → 0 < length held → 0 < length puts
+    (held puts left : List MemberItem) (r : Option MemberItem) (x p : MemberItem)
+    → AreRising held → AreRising puts → 0 < length held → 0 < length puts
     → x ≡ get_or held 0 x → p ≡ get_or puts 0 p → IsIdBelow p.id x.id → puts ≡ option_to_list r ++ left → left ≡ drop 1 puts
-    → IsNext r (put_all (items_view puts) (items_view held)) (put_all (items_view left) (items_view held))
+    → IsNext r (put_all puts held) (put_all left held)
 next_is_put [] puts left r x p rises rising some more x_is p_is below whole rest = absurd (omega arith)
 next_is_put (h ∷ hs) [] left r x p rises rising some more x_is p_is below whole rest = absurd (omega arith)
-next_is_put {U} (h ∷ hs) (q ∷ qs) left r x p rises rising some more x_is p_is below whole rest =
+next_is_put (h ∷ hs) (q ∷ qs) left r x p rises rising some more x_is p_is below whole rest =
     let both = popped q qs left r whole rest in
     let lower : IsIdBelow q.id h.id =
-    subst (λ (z : Item U). IsIdBelow q.id z.id) x_is (subst (λ (z : Item U). IsIdBelow z.id x.id) p_is below) in
-    is_next q r (put_all (items_view (q ∷ qs)) (items_view (h ∷ hs))) (put_all (items_view left) (items_view (h ∷ hs))) both.0
-    (rw both.1 (next_put (item_view h) (item_view q) (items_view qs) (items_view hs) rising rises lower))
+    subst (λ (z : MemberItem). IsIdBelow q.id z.id) x_is (subst (λ (z : MemberItem). IsIdBelow z.id x.id) p_is below) in
+    is_next q r (put_all (q ∷ qs) (h ∷ hs)) (put_all left (h ∷ hs)) both.0
+    (rw both.1 (next_put h q qs hs rising rises lower))
 
 pub next_is_both :
-    {U : ℕ} (held puts behind left : List (Item U)) (old r next : Option (Item U)) (x p : Item U)
-    → AreRising (items_view puts) → 0 < length held → 0 < length puts → x ≡ get_or held 0 x → p ≡ get_or puts 0 p
+    (held puts behind left : List MemberItem) (old r next : Option MemberItem) (x p : MemberItem)
+    → AreRising puts → 0 < length held → 0 < length puts → x ≡ get_or held 0 x → p ≡ get_or puts 0 p
     → x.id ≡ p.id → held ≡ option_to_list old ++ behind → behind ≡ drop 1 held
     → puts ≡ option_to_list r ++ left → left ≡ drop 1 puts → next ≡ option_and old r
-    → IsNext next (put_all (items_view puts) (items_view held)) (put_all (items_view left) (items_view behind))
+    → IsNext next (put_all puts held) (put_all left behind)
 next_is_both [] puts behind left old r next x p rising some more x_is p_is same taken passed whole rest gives = absurd (omega arith)
 next_is_both (h ∷ hs) [] behind left old r next x p rising some more x_is p_is same taken passed whole rest gives = absurd (omega arith)
-next_is_both {U} (h ∷ hs) (q ∷ qs) behind left old r next x p rising some more x_is p_is same taken passed whole rest gives =
+next_is_both (h ∷ hs) (q ∷ qs) behind left old r next x p rising some more x_is p_is same taken passed whole rest gives =
     let first = popped h hs behind old taken passed in
     let both = popped q qs left r whole rest in
-    let one : h.id ≡ q.id = sym (ap (λ (z : Item U). z.id) x_is) ∙ same ∙ ap (λ (z : Item U). z.id) p_is in
-    let is : next ≡ Some q = gives ∙ ap (λ (o : Option (Item U)). option_and o r) first.0 ∙ both.0 in
-    is_next q next (put_all (items_view (q ∷ qs)) (items_view (h ∷ hs))) (put_all (items_view left) (items_view behind)) is
-    (rw (both.1, first.1) (next_both (item_view h) (item_view q) (items_view qs) (items_view hs) rising one))
+    let one : h.id ≡ q.id = sym (ap (λ (z : MemberItem). z.id) x_is) ∙ same ∙ ap (λ (z : MemberItem). z.id) p_is in
+    let is : next ≡ Some q = gives ∙ ap (λ (o : Option MemberItem). option_and o r) first.0 ∙ both.0 in
+    is_next q next (put_all (q ∷ qs) (h ∷ hs)) (put_all left behind) is
+    (rw (both.1, first.1) (next_both h q qs hs rising one))
 
 -- ---- the order of ids as the program has it
 
@@ -733,44 +728,44 @@ among is id (Err k) rising inside found =
     ]))
 
 -- The item's id is none of these.
-abbrev pub stays : {U : ℕ} → List ItemId → Item U → Bool
+abbrev pub stays : List ItemId → MemberItem → Bool
 stays is x = not (list_any (same_item x.id) is)
 
-abbrev stays_but : {U : ℕ} → ItemId → Item U → Bool
+abbrev stays_but : ItemId → MemberItem → Bool
 stays_but i x = not (same_item x.id i)
 
-all_stay : {U : ℕ} (xs : List (Item U)) → filter (stays []) xs ≡ xs
+all_stay : (xs : List MemberItem) → filter (stays []) xs ≡ xs
 all_stay [] = refl
-all_stay {U} (x ∷ xs) = ap (λ (ys : List (Item U)). x ∷ ys) (all_stay xs)
+all_stay (x ∷ xs) = ap (λ (ys : List MemberItem). x ∷ ys) (all_stay xs)
 
 -- Where no item has the id, all stay, and else all but the one with it.
 all_others :
-    {U : ℕ} (i : ItemId) (xs : List (Item U))
-    → ((y : MemberItem) → Has y (items_view xs) → IsIdBelow i y.id) → filter (stays_but i) xs ≡ xs
+    (i : ItemId) (xs : List MemberItem)
+    → ((y : MemberItem) → Has y xs → IsIdBelow i y.id) → filter (stays_but i) xs ≡ xs
 all_others i [] above = refl
-all_others {U} i (x ∷ xs) above =
-    rw (other_item x.id i (λ same. before_differs i x.id (above (item_view x) (inl refl)) (sym same)))
-    (ap (λ (ys : List (Item U)). x ∷ ys) (all_others i xs (λ y has. above y (inr has))))
+all_others i (x ∷ xs) above =
+    rw (other_item x.id i (λ same. before_differs i x.id (above x (inl refl)) (sym same)))
+    (ap (λ (ys : List MemberItem). x ∷ ys) (all_others i xs (λ y has. above y (inr has))))
 
 drop_stays :
-    {U : ℕ} (i : ItemId) (xs : List (Item U))
-    → AreRising (items_view xs) → items_view (filter (stays_but i) xs) ≡ drop_item i (items_view xs)
+    (i : ItemId) (xs : List MemberItem)
+    → AreRising xs → (filter (stays_but i) xs) ≡ drop_item i xs
 drop_stays i [] rising = refl
-drop_stays {U} i (x ∷ xs) rising = by_test (drop_stays i xs rising.1) (same_item x.id i) refl
+drop_stays i (x ∷ xs) rising = by_test (drop_stays i xs rising.1) (same_item x.id i) refl
   where
     by_test :
-        items_view (filter (stays_but i) xs) ≡ drop_item i (items_view xs)
+        (filter (stays_but i) xs) ≡ drop_item i xs
         → (b : Bool) → same_item x.id i ≡ b
-        → items_view (filter (stays_but i) (x ∷ xs)) ≡ (if b then items_view xs else item_view x ∷ drop_item i (items_view xs))
+        → (filter (stays_but i) (x ∷ xs)) ≡ (if b then xs else x ∷ drop_item i xs)
     by_test rest true e =
-        rw e (ap items_view (all_others i xs (λ y has. subst (λ (j : ItemId). IsIdBelow j y.id) (same_item_is x.id i e) (rising.0 y has))))
-    by_test rest false e = rw e (ap (λ (zs : List MemberItem). item_view x ∷ zs) rest)
+        rw e ((all_others i xs (λ y has. subst (λ (j : ItemId). IsIdBelow j y.id) (same_item_is x.id i e) (rising.0 y has))))
+    by_test rest false e = rw e (ap (λ (zs : List MemberItem). x ∷ zs) rest)
 
 both_stay :
-    {U : ℕ} (i : ItemId) (is : List ItemId) (xs : List (Item U))
+    (i : ItemId) (is : List ItemId) (xs : List MemberItem)
     → filter (stays is) (filter (stays_but i) xs) ≡ filter (stays (i ∷ is)) xs
 both_stay i is [] = refl
-both_stay {U} i is (x ∷ xs) = by_tests (both_stay i is xs) (same_item x.id i) (list_any (same_item x.id) is) refl refl
+both_stay i is (x ∷ xs) = by_tests (both_stay i is xs) (same_item x.id i) (list_any (same_item x.id) is) refl refl
   where
     by_tests :
         filter (stays is) (filter (stays_but i) xs) ≡ filter (stays (i ∷ is)) xs
@@ -778,17 +773,17 @@ both_stay {U} i is (x ∷ xs) = by_tests (both_stay i is xs) (same_item x.id i) 
         → filter (stays is) (filter (stays_but i) (x ∷ xs)) ≡ filter (stays (i ∷ is)) (x ∷ xs)
     by_tests rest true c e f = rw e rest
     by_tests rest false true e f = rw (e, f) rest
-    by_tests rest false false e f = rw (e, f) (ap (λ (ys : List (Item U)). x ∷ ys) rest)
+    by_tests rest false false e f = rw (e, f) (ap (λ (ys : List MemberItem). x ∷ ys) rest)
 
 -- The items that stay are those without the ones with these ids.
 pub drops_stay :
-    {U : ℕ} (is : List ItemId) (xs : List (Item U))
-    → AreRising (items_view xs) → items_view (filter (stays is) xs) ≡ drop_all is (items_view xs)
-drops_stay [] xs rising = ap items_view (all_stay xs)
-drops_stay {U} (i ∷ is) xs rising =
+    (is : List ItemId) (xs : List MemberItem)
+    → AreRising xs → (filter (stays is) xs) ≡ drop_all is xs
+drops_stay [] xs rising = (all_stay xs)
+drops_stay (i ∷ is) xs rising =
     let one = drop_stays i xs rising in
-    ap items_view (sym (both_stay i is xs))
-    ∙ drops_stay is (filter (stays_but i) xs) (subst AreRising (sym one) (drop_rising i (items_view xs) rising))
+    (sym (both_stay i is xs))
+    ∙ drops_stay is (filter (stays_but i) xs) (subst AreRising (sym one) (drop_rising i xs rising))
     ∙ ap (λ (ys : List MemberItem). drop_all is ys) one
 
 -- ---- what is found once items are put and taken away

@@ -1,9 +1,7 @@
 -- The merge of two lists of items, item by item.
 use Rattle.std.specs.Prelude.{◌≡◌, ℕ, List, [], ◌∷◌, Option, MatchOption}
-use Rattle.sfx_item.specs.declared.item.Item.{Item}
-use Rattle.sfx_model.specs.Items.{item_view}
-use Rattle.sfx_model.specs.Members.{MemberItem}
+use Rattle.sfx_item.specs.Item.{MemberItem}
 
 -- The item is the first of the whole list, with this rest; where there is none, the whole is empty.
-abbrev pub IsNext : {U : ℕ} → Option (Item U) → List MemberItem → List MemberItem → Type 0
-IsNext next whole rest = MatchOption next (whole ≡ []) (λ x. whole ≡ item_view x ∷ rest)
+abbrev pub IsNext : Option MemberItem → List MemberItem → List MemberItem → Type 0
+IsNext next whole rest = MatchOption next (whole ≡ []) (λ x. whole ≡ x ∷ rest)

@@ -1,7 +1,6 @@
 //! What stands next to a place in a list of items in order of their ids.
 ghost use Rattle.std.specs.Prelude.{◌≡◌};
 ghost use Rattle.std.specs.Option.{option_map};
-ghost use Rattle.sfx_model.specs.Items.{item_view, items_view};
 ghost use Rattle.sfx_model.specs.Members.{AreRising};
 ghost use Rattle.sfx_model.specs.Readings.{first_from};
 ghost use Rattle.sfx_items.specs.Neighbours.{last_before};
@@ -20,8 +19,8 @@ pub struct Neighbours<'a, const U: usize> {
 /// The last item whose place is before `place`, or `None` where there is none. Among N items the cut is
 /// compared with at most log2(N) + 1 of them.
 pub fn last_before<'a, const U: usize>(items: &'a [Item<U>], place: &Cut) -> Option<&'a Item<U>>
-    requires rising { AreRising (items_view items.now) }
-    ensures { option_map (λ x. item_view x.now) result ≡ last_before place.now (items_view items.now) }
+    requires rising { AreRising items.now }
+    ensures { option_map (λ x. x.now) result ≡ last_before place.now items.now }
 {
     let count = place_from(items, place);
     if count == 0 {
@@ -32,11 +31,11 @@ pub fn last_before<'a, const U: usize>(items: &'a [Item<U>], place: &Cut) -> Opt
 
 /// The neighbours of the item with this id, whether it stands there or not: neither is the item itself.
 pub fn neighbours_of<'a, const U: usize>(items: &'a [Item<U>], id: &ItemId) -> Neighbours<'a, U>
-    requires rising { AreRising (items_view items.now) }
-    ensures before { let last = last_before (Cut.At id.now) (items_view items.now) in
-        option_map (λ x. item_view x.now) result.before ≡ last }
-    ensures behind { let first = first_from (Cut.After id.now) (items_view items.now) in
-        option_map (λ x. item_view x.now) result.behind ≡ first }
+    requires rising { AreRising items.now }
+    ensures before { let last = last_before (Cut.At id.now) items.now in
+        option_map (λ x. x.now) result.before ≡ last }
+    ensures behind { let first = first_from (Cut.After id.now) items.now in
+        option_map (λ x. x.now) result.behind ≡ first }
 {
     Neighbours {
         before: last_before(items, &Cut::At(*id)),

@@ -3,7 +3,6 @@ ghost use Rattle.std.specs.Prelude.{◌≡◌, ◌≤◌, ◌<◌, ◌+◌, ◌+
 ghost use Rattle.std.specs.List.{list_any};
 ghost use Rattle.std.specs.VecDeque.{deque_len};
 ghost use Rattle.sfx_model.specs.Events.{same_item};
-ghost use Rattle.sfx_model.specs.Items.{items_view};
 ghost use Rattle.sfx_model.specs.Members.{AreIdsRising, AreRising};
 ghost use Rattle.sfx_model.specs.Putting.{drop_all, put_all};
 ghost use Rattle.sfx_items.specs.Merging.{IsNext};
@@ -20,10 +19,10 @@ use std::mem;
 /// # Errors
 /// `Memory`. Nothing has changed then.
 pub fn put_all<const U: usize>(items: &mut Vec<Item<U>>, puts: Vec<Item<U>>) -> Result<(), Memory>
-    requires rising { AreRising (items_view items.old.items) }
-    requires puts { AreRising (items_view puts.items) }
-    ensures ok { let all = put_all (items_view puts.entry.items) (items_view items.old.items) in
-        OnOk result (items_view items.new.items ≡ all) }
+    requires rising { AreRising items.old.items }
+    requires puts { AreRising puts.items }
+    ensures ok { let all = put_all puts.entry.items items.old.items in
+        OnOk result (items.new.items ≡ all) }
     ensures err { OnErr result (items.new.items ≡ items.old.items) }
 {
     let room = Vec::with_capacity(*items.allocator(), items.len() + puts.len())?;
@@ -39,10 +38,10 @@ fn merge<const U: usize>(
     mut puts: VecDeque<Item<U>>,
 )
     requires room { vec_len merged.old + (deque_len held + deque_len puts) ≤ vec_capacity merged.old }
-    requires held { AreRising (items_view held.items) }
-    requires puts { AreRising (items_view puts.items) }
-    ensures { let all = put_all (items_view puts.entry.items) (items_view held.entry.items) in
-        items_view merged.new.items ≡ items_view merged.old.items ++ all }
+    requires held { AreRising held.items }
+    requires puts { AreRising puts.items }
+    ensures { let all = put_all puts.entry.items held.entry.items in
+        merged.new.items ≡ merged.old.items ++ all }
 {
     'merge: while let Some(item) = next(&mut held, &mut puts) {
         merged.push(item).unwrap();
@@ -54,12 +53,12 @@ fn next<const U: usize>(
     held: &mut VecDeque<Item<U>>,
     puts: &mut VecDeque<Item<U>>,
 ) -> Option<Item<U>>
-    requires held { AreRising (items_view held.old.items) }
-    requires puts { AreRising (items_view puts.old.items) }
-    ensures next { let whole = put_all (items_view puts.old.items) (items_view held.old.items) in
-        IsNext result whole (put_all (items_view puts.new.items) (items_view held.new.items)) }
-    ensures held { AreRising (items_view held.new.items) }
-    ensures puts { AreRising (items_view puts.new.items) }
+    requires held { AreRising held.old.items }
+    requires puts { AreRising puts.old.items }
+    ensures next { let whole = put_all puts.old.items held.old.items in
+        IsNext result whole (put_all puts.new.items held.new.items) }
+    ensures held { AreRising held.new.items }
+    ensures puts { AreRising puts.new.items }
     ensures fewer { IsSome result →
         deque_len held.new + deque_len puts.new < deque_len held.old + deque_len puts.old }
 {
@@ -76,9 +75,9 @@ fn next<const U: usize>(
 
 /// Takes the items with these ids, which ascend, away in one pass over the items.
 pub fn drop_all<const U: usize>(items: &mut Vec<Item<U>>, drops: &[ItemId])
-    requires rising { AreRising (items_view items.old.items) }
+    requires rising { AreRising items.old.items }
     requires drops { AreIdsRising drops.now }
-    ensures { items_view items.new.items ≡ drop_all drops.now (items_view items.old.items) }
+    ensures { items.new.items ≡ drop_all drops.now items.old.items }
 {
     items.retain(
         |item| -> bool

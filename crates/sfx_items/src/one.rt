@@ -1,7 +1,6 @@
 //! One item that is put into a list in order of its ids, or taken away.
 ghost use Rattle.std.specs.Prelude.{◌≡◌, OnOk, OnErr, IfSome};
 ghost use Rattle.std.specs.Option.{option_map};
-ghost use Rattle.sfx_model.specs.Items.{item_view, items_view, state_view};
 ghost use Rattle.sfx_model.specs.Members.{AreRising, state_of};
 ghost use Rattle.sfx_model.specs.Putting.{drop_item, put_item};
 
@@ -15,9 +14,9 @@ use sfx_item::Item;
 /// # Errors
 /// `Memory`. Nothing has changed then.
 pub fn put<const U: usize>(items: &mut Vec<Item<U>>, item: Item<U>) -> Result<(), Memory>
-    requires rising { AreRising (items_view items.old.items) }
-    ensures ok { let all = put_item (item_view item.entry) (items_view items.old.items) in
-        OnOk result (items_view items.new.items ≡ all) }
+    requires rising { AreRising items.old.items }
+    ensures ok { let all = put_item item.entry items.old.items in
+        OnOk result (items.new.items ≡ all) }
     ensures err { OnErr result (items.new.items ≡ items.old.items) }
 {
     let found = search(items.as_slice(), &Cut::At(item.id));
@@ -31,9 +30,9 @@ pub fn put<const U: usize>(items: &mut Vec<Item<U>>, item: Item<U>) -> Result<()
 
 /// Takes the item with this id away, and answers it, or `None` where there is none.
 pub fn take_away<const U: usize>(items: &mut Vec<Item<U>>, id: &ItemId) -> Option<Item<U>>
-    requires rising { AreRising (items_view items.old.items) }
-    ensures items { items_view items.new.items ≡ drop_item id.now (items_view items.old.items) }
-    ensures state { option_map (λ x. state_view x.state) result ≡ state_of (items_view items.old.items) id.now }
+    requires rising { AreRising items.old.items }
+    ensures items { items.new.items ≡ drop_item id.now items.old.items }
+    ensures state { option_map (λ x. x.state) result ≡ state_of items.old.items id.now }
     ensures same { IfSome result (λ x. x.id ≡ id.now) }
 {
     match place_of(items.as_slice(), id) {

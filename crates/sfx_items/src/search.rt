@@ -1,8 +1,9 @@
 //! The search by halves, on which every look-up rests.
 ghost use Rattle.std.specs.Prelude.{◌≡◌, if◌then◌else◌, length, Some, None};
 ghost use Rattle.std.specs.List.{position_from};
+ghost use Rattle.sfx_ids.specs.Cut.{cut_cmp};
+ghost use Rattle.sfx_ids.specs.declared.cut.Cut.TheVariants.{At};
 ghost use Rattle.sfx_ids.specs.declared.item_id.ItemId.{ItemId};
-ghost use Rattle.sfx_model.specs.Items.{items_view};
 ghost use Rattle.sfx_model.specs.Members.{AreRising};
 ghost use Rattle.sfx_items.specs.Places.{AreFew, count_before, has_id};
 
@@ -24,8 +25,8 @@ pub(crate) struct Found {
 /// Searches items in order of their ids for a cut, by halves: among N items it is compared with at most
 /// log2(N) + 1 of them.
 pub(crate) fn search<const U: usize>(items: &[Item<U>], cut: &Cut) -> Found
-    requires rising { AreRising (items_view items.now) }
-    ensures place { result.place ≡ count_before cut.now (items_view items.now) }
+    requires rising { AreRising items.now }
+    ensures place { result.place ≡ count_before cut.now items.now }
     ensures exact { (i : ItemId) → cut.now ≡ Cut.At i →
         position_from (has_id i) 0 items.now ≡ (if result.exact then Some result.place else None) }
     ensures few { AreFew (length items.now) result.compared }
@@ -36,7 +37,7 @@ pub(crate) fn search<const U: usize>(items: &[Item<U>], cut: &Cut) -> Found
     'halves: while low < high {
         let middle = low + (high - low) / 2;
         compared += 1;
-        match Cut::At(items[middle].id).cmp(cut) {
+        match compare(&items[middle], cut) {
             Ordering::Less => low = middle + 1,
             Ordering::Greater => high = middle,
             Ordering::Equal => {
@@ -53,4 +54,11 @@ pub(crate) fn search<const U: usize>(items: &[Item<U>], cut: &Cut) -> Found
         exact: false,
         compared,
     }
+}
+
+/// How the place of an item stands to a cut.
+fn compare<const U: usize>(item: &Item<U>, cut: &Cut) -> Ordering
+    ensures { result ≡ cut_cmp (At item.now.id) cut.now }
+{
+    Cut::At(item.id).cmp(cut)
 }

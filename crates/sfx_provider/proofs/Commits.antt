@@ -11,7 +11,8 @@ use Rattle.sfx_knowledge.specs.Knowledge.{IsKnowledge, HasTicks, laid_over, tick
 use Rattle.sfx_knowledge.specs.Forms.{with_own}
 use Rattle.sfx_knowledge.proofs.Making.{IsKnowledge-with_own, ticks-with_own}
 use Rattle.sfx_model.specs.Consistent.{IsConsistent, IsOwned}
-use Rattle.sfx_model.specs.Members.{ItemState, Member, state_of, vector_at}
+use Rattle.sfx_item.specs.Item.{ItemState}
+use Rattle.sfx_model.specs.Members.{Member, state_of, vector_at}
 use Rattle.sfx_model.specs.Sets.{Has}
 use Rattle.sfx_model.specs.World.{IsContained}
 use Rattle.sfx_model.proofs.Rising.{before_differs, ids_compared}

@@ -12,7 +12,8 @@ use Rattle.sfx_knowledge.proofs.Known.{one_knowledge}
 use Rattle.sfx_knowledge.proofs.Making.{IsKnowledge-with_own, ticks-with_own}
 use Rattle.sfx_model.specs.Consistent.{AreApart, IsConsistent, live_name}
 use Rattle.sfx_model.specs.Events.{same_item}
-use Rattle.sfx_model.specs.Members.{ItemState, Member, MemberItem, AreIdsRising, AreRising, state_of}
+use Rattle.sfx_item.specs.Item.{ItemState, MemberItem}
+use Rattle.sfx_model.specs.Members.{Member, AreIdsRising, AreRising, state_of}
 use Rattle.sfx_model.specs.Sets.{Has}
 use Rattle.sfx_model.proofs.Rising.{before_differs, ids_compared}
 use Rattle.sfx_model.proofs.Steps.{same_item_is}

@@ -2,14 +2,13 @@
 use Rattle.std.proofs.Common.{◌≡◌, ℕ, ◌++◌, append_assoc, Bool, true, false, if◌then◌else◌, List, [], ◌∷◌, Option, Some, None, inl, inr, refl, sym, ◌∙◌, ap, subst, ◌<◌, length, arith}
 use Rattle.std.proofs.lemmas.Bool.Decides.{nat_tests}
 use Rattle.std.proofs.lemmas.List.{map-append}
-use Rattle.sfx_item.specs.declared.item.Item.{Item}
-use Rattle.sfx_model.specs.Items.{item_view, items_view}
 use Rattle.sfx_ids.specs.declared.cut.Cut.{Cut}
 use Rattle.sfx_ids.specs.declared.cut.Cut.TheVariants.{Start, At, After}
 use Rattle.sfx_ids.specs.declared.item_id.ItemId.{ItemId}
 use Rattle.sfx_ids.specs.Cut.{cut_le}
 use Rattle.sfx_ids.proofs.CutOrder.{at-lt-after, le_trans, lt-le, start-le, lt-not_le}
-use Rattle.sfx_model.specs.Members.{MemberItem, AreRising, IsIdBelow}
+use Rattle.sfx_item.specs.Item.{MemberItem}
+use Rattle.sfx_model.specs.Members.{AreRising, IsIdBelow}
 use Rattle.sfx_model.specs.Readings.{first_from, items_from}
 use Rattle.sfx_model.specs.Sets.{Has}
 use Rattle.sfx_provider.specs.Walk.{IsWalk}
@@ -162,9 +161,9 @@ ended place items none = by_items (items_from place items) refl
 
 -- The items so far, with one more, and those that are left behind it are all.
 pub walked_on :
-    {U : ℕ} (place : Cut) (items : List MemberItem) (so_far : List (Item U)) (x : Item U)
-    → AreRising items → first_from place items ≡ Some (item_view x)
-    → items_view so_far ++ items_from place items ≡ items
-    → items_view (so_far ++ x ∷ []) ++ items_from (After x.id) items ≡ items
+    (place : Cut) (items : List MemberItem) (so_far : List MemberItem) (x : MemberItem)
+    → AreRising items → first_from place items ≡ Some x
+    → so_far ++ items_from place items ≡ items
+    → (so_far ++ x ∷ []) ++ items_from (After x.id) items ≡ items
 walked_on place items so_far x rising found walked =
-    rw (map-append, append_assoc) (rw (stepped place items (item_view x) rising found) at walked)
+    rw (map-append, append_assoc) (rw (stepped place items x rising found) at walked)

@@ -4,7 +4,8 @@ use Rattle.sfx_ids.specs.declared.item_id.ItemId.{ItemId}
 use Rattle.sfx_knowledge.specs.Knowledge.{Known}
 use Rattle.sfx_knowledge.specs.Forgotten.{Forgets}
 use Rattle.sfx_knowledge.specs.Forms.{with_own}
-use Rattle.sfx_model.specs.Members.{MemberItem, Member}
+use Rattle.sfx_item.specs.Item.{MemberItem}
+use Rattle.sfx_model.specs.Members.{Member}
 use Rattle.sfx_model.specs.Putting.{put_all, drop_all}
 use Rattle.sfx_provider.specs.Head.{HeadData}
 

@@ -10,8 +10,8 @@ use Rattle.sfx_segments.specs.Segments.{IsPlace}
 use Rattle.sfx_knowledge.specs.Knowledge.{Known, KnowsVersion, tick_at}
 use Rattle.sfx_knowledge.specs.Forgotten.{AreForgets, Forgets, fvec}
 use Rattle.sfx_model.specs.Consistent.{IsItemState, AreApart}
-use Rattle.sfx_model.specs.Headline.{version_at}
-use Rattle.sfx_model.specs.Members.{ItemState, Member, AreIdsRising, AreRising, state_of, vector_at}
+use Rattle.sfx_item.specs.Item.{version_at, ItemState}
+use Rattle.sfx_model.specs.Members.{Member, AreIdsRising, AreRising, state_of, vector_at}
 use Rattle.sfx_model.specs.Sets.{Has}
 use Rattle.sfx_provider.specs.Commit.{CommitData, committed}
 

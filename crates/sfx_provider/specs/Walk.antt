@@ -2,7 +2,7 @@
 use Rattle.std.specs.Prelude.{◌≡◌, List, [], ◌∷◌, Some, None}
 use Rattle.sfx_ids.specs.declared.cut.Cut.{Cut}
 use Rattle.sfx_ids.specs.declared.cut.Cut.TheVariants.{After}
-use Rattle.sfx_model.specs.Members.{MemberItem}
+use Rattle.sfx_item.specs.Item.{MemberItem}
 use Rattle.sfx_model.specs.Readings.{first_from}
 
 -- The first item from this place, then the first one from behind it, and so on, are these, until there is

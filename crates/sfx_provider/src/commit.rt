@@ -20,12 +20,11 @@ pub struct Commit<const U: usize> {
 }
 
 impl<const U: usize> Model for Commit<U> {
-    ghost use Rattle.sfx_model.specs.Items.{items_view};
     ghost use Rattle.sfx_provider.specs.Commit.{CommitData};
 
     ghost Value = { CommitData };
 
-    ghost view = { λ c. record { clock = c.clock; knowledge = c.knowledge; forgotten = c.forgotten; puts = items_view c.puts.items; drops = c.drops.items } };
+    ghost view = { λ c. record { clock = c.clock; knowledge = c.knowledge; forgotten = c.forgotten; puts = c.puts.items; drops = c.drops.items } };
 }
 
 impl<const U: usize> Commit<U> {

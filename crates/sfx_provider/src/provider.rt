@@ -1,7 +1,6 @@
 ghost use Rattle.std.specs.Prelude.{◌≡◌, ◌⊎◌, ℕ, List, [], ◌∷◌, ◌++◌, Option, Some, take, IfOk, IfSome, OnOk, OnErr};
 ghost use Rattle.std.specs.Option.{option_map};
 ghost use Rattle.sfx_model.specs.Consistent.{IsConsistent};
-ghost use Rattle.sfx_model.specs.Items.{item_view, items_view, state_view};
 ghost use Rattle.sfx_model.specs.Members.{Member, state_of};
 ghost use Rattle.sfx_model.specs.Readings.{clashing_with, first_from, unseen};
 ghost use Rattle.sfx_provider.specs.Commit.{committed};
@@ -68,7 +67,7 @@ pub trait Provider<const U: usize> {
     /// # Errors
     /// `Failed`, only where the count of faults rose, and `Memory`.
     fn item(&mut self, alloc: Global, id: &ItemId) -> Result<Option<Item<U>>, ProviderFault>
-        ensures value { IfOk result (λ item. option_map (λ x. state_view x.state) item ≡
+        ensures value { IfOk result (λ item. option_map (λ x. x.state) item ≡
             state_of (state self.old).items id.now) }
         ensures same { IfOk result (λ item. IfSome item (λ x. x.id ≡ id.now)) }
         ensures rests { Rests state kept settled came self.old self.new }
@@ -79,7 +78,7 @@ pub trait Provider<const U: usize> {
     /// # Errors
     /// `Failed`, only where the count of faults rose, and `Memory`.
     fn next_from(&mut self, alloc: Global, from: &Cut) -> Result<Option<Item<U>>, ProviderFault>
-        ensures value { IfOk result (λ item. option_map item_view item ≡ first_from from.now (state self.old).items) }
+        ensures value { IfOk result (λ item. option_map item ≡ first_from from.now (state self.old).items) }
         ensures rests { Rests state kept settled came self.old self.new }
         ensures cause { HasCause blames_storage (faults self.old) (faults self.new) result };
 
@@ -110,7 +109,7 @@ pub trait Provider<const U: usize> {
         from: &Cut,
         limit: usize,
     ) -> Result<Vec<Item<U>>, ProviderFault>
-        ensures value { IfOk result (λ items. items_view items.items ≡
+        ensures value { IfOk result (λ items. items.items ≡
             take limit (unseen U to.now from.now (state self.old).items)) }
         ensures rests { Rests state kept settled came self.old self.new }
         ensures cause { HasCause blames_storage (faults self.old) (faults self.new) result };

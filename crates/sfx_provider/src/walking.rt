@@ -1,5 +1,4 @@
 ghost use Rattle.std.specs.Prelude.{◌≡◌, IfOk};
-ghost use Rattle.sfx_model.specs.Items.{items_view};
 ghost use Rattle.sfx_provider.specs.Fault.{HasCause, blames_storage};
 ghost use Rattle.sfx_provider.specs.Leaves.{Rests};
 
@@ -16,7 +15,7 @@ pub fn all_items<const U: usize, P: Provider<U>>(
     alloc: Global,
     provider: &mut P,
 ) -> Result<Vec<Item<U>>, ProviderFault>
-    ensures value { IfOk result (λ items. items_view items.items ≡ (P.state provider.old).items) }
+    ensures value { IfOk result (λ items. items.items ≡ (P.state provider.old).items) }
     ensures rests { Rests P.state P.kept P.settled P.came provider.old provider.new }
     ensures cause { HasCause blames_storage (P.faults provider.old) (P.faults provider.new) result }
 {

@@ -26,8 +26,8 @@ use Rattle.sfx_knowledge.proofs.Forgets.{nothing_form, none_forgotten}
 use Rattle.sfx_knowledge.specs.Knowledge.{HasTicks, IsKnowledge, Known, laid_over, no_row, tick_at}
 use Rattle.sfx_model.specs.Consistent.{IsConsistent, IsOwned, AreApart, live_name}
 use Rattle.sfx_model.specs.Events.{same_item}
-use Rattle.sfx_model.specs.Headline.{version_at}
-use Rattle.sfx_model.specs.Members.{ItemState, Live, MemberItem, Member, AreRising, state_of, vector_at}
+use Rattle.sfx_item.specs.Item.{version_at, ItemState, Live, MemberItem}
+use Rattle.sfx_model.specs.Members.{Member, AreRising, state_of, vector_at}
 use Rattle.sfx_model.specs.States.{cells_at, cells_with, next_created, next_item, next_version, with_item, with_state}
 use Rattle.sfx_model.specs.World.{IsContained}
 use Rattle.sfx_model.proofs.Acts.{set_cases}

@@ -5,7 +5,8 @@ use Rattle.std.specs.Option.{option_or}
 use Rattle.sfx_ids.specs.declared.item_id.ItemId.{ItemId}
 use Rattle.sfx_ids.specs.declared.version.Version.{Version}
 use Rattle.sfx_item.specs.declared.cell.Cell.{Cell}
-use Rattle.sfx_model.specs.Members.{Live, Dead, Member, MemberItem, state_of}
+use Rattle.sfx_item.specs.Item.{Live, Dead, MemberItem}
+use Rattle.sfx_model.specs.Members.{Member, state_of}
 use Rattle.sfx_replica.specs.declared.edit_fault.EditFault.TheVariants.{NoItem, Deleted, BadUnit}
 use Rattle.sfx_replica.specs.Refusals.{full_clock, name_refusal, state_refusal}
 

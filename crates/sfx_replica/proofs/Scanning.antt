@@ -2,23 +2,21 @@
 use Rattle.std.proofs.Common.{◌≡◌, ℕ, ◌+◌, ◌<◌, ◌≤◌, Bool, true, false, if◌then◌else◌, List, [], ◌∷◌, ◌++◌, length, drop, get_or, Option, refl, sym, ap, ◌∙◌, append_assoc}
 use Rattle.std.proofs.lemmas.List.{drop_all}
 use Rattle.sfx_ids.specs.declared.item_id.ItemId.{ItemId}
-use Rattle.sfx_item.specs.declared.item.Item.{Item}
-use Rattle.sfx_model.specs.Items.{item_view, items_view}
-use Rattle.sfx_model.specs.Members.{MemberItem}
+use Rattle.sfx_item.specs.Item.{MemberItem}
 use Rattle.sfx_model.specs.Readings.{clashing_with, is_in_the_way}
 use Rattle.sfx_replica.proofs.Gathering.{opened}
 
 -- What a function of the items that are left gives at the next one, and at the end.
 pub next_gives :
-    {U : ℕ} {A : Type 0} (of : List MemberItem → A) (items : List (Item U)) (j : ℕ) (x : Item U) (whole : A)
-    → x ≡ get_or items j x → j < length items → whole ≡ of (items_view (drop j items))
-    → whole ≡ of (item_view x ∷ items_view (drop (j + 1) items))
-next_gives {U} of items j x whole is inside so_far = so_far ∙ ap (λ (xs : List (Item U)). of (items_view xs)) (opened items j x is inside)
+    {A : Type 0} (of : List MemberItem → A) (items : List MemberItem) (j : ℕ) (x : MemberItem) (whole : A)
+    → x ≡ get_or items j x → j < length items → whole ≡ of (drop j items)
+    → whole ≡ of (x ∷ (drop (j + 1) items))
+next_gives of items j x whole is inside so_far = so_far ∙ ap (λ (xs : List MemberItem). of xs) (opened items j x is inside)
 
 pub end_gives :
-    {U : ℕ} {A : Type 0} (of : List MemberItem → A) (items : List (Item U)) (j : ℕ) (whole : A)
-    → length items ≤ j → whole ≡ of (items_view (drop j items)) → whole ≡ of []
-end_gives {U} of items j whole past so_far = so_far ∙ ap (λ (xs : List (Item U)). of (items_view xs)) (drop_all j items past)
+    {A : Type 0} (of : List MemberItem → A) (items : List MemberItem) (j : ℕ) (whole : A)
+    → length items ≤ j → whole ≡ of (drop j items) → whole ≡ of []
+end_gives of items j whole past so_far = so_far ∙ ap (λ (xs : List MemberItem). of xs) (drop_all j items past)
 
 -- A test that is passed, and one that is not.
 pub if_true : {A : Type 0} (b : Bool) (x y : A) → b ≡ true → (if b then x else y) ≡ x

@@ -6,12 +6,11 @@ use Rattle.std.specs.List.{position_from}
 use Rattle.sfx_ids.specs.declared.item_id.ItemId.{ItemId}
 use Rattle.sfx_ids.specs.declared.version.Version.{Version}
 use Rattle.sfx_item.specs.declared.cell.Cell.{Cell}
-use Rattle.sfx_item.specs.declared.item.Item.{Item}
 use Rattle.sfx_item.specs.declared.state.State.{State}
 use Rattle.sfx_item.specs.declared.state.State.TheVariants.{Live as LiveRow, Dead as Tombstone}
 use Rattle.sfx_item.specs.Name.{IsName}
-use Rattle.sfx_model.specs.Items.{items_view, state_view}
-use Rattle.sfx_model.specs.Members.{Live, Dead, Member, MemberItem, state_of}
+use Rattle.sfx_item.specs.Item.{state_view, Live, Dead, MemberItem}
+use Rattle.sfx_model.specs.Members.{Member, state_of}
 use Rattle.sfx_model.specs.States.{cells_with, next_version, with_state}
 use Rattle.sfx_replica.specs.Items.{IsTarget}
 use Rattle.sfx_replica.specs.Refusals.{full_clock, name_refusal}
@@ -20,19 +19,19 @@ use Rattle.sfx_items.specs.Places.{has_id}
 use Rattle.sfx_items.proofs.ItemListLemmas.{IsPlace, at_place, id_there, state_there}
 
 -- an item put back with other cells has another state in its place
-pub edited_view : {U : ℕ} (xs : List (Item U)) (i : ItemId) (k : ℕ) (old y : Item U) (cells : List Cell)
-    → IsPlace xs i k → old ≡ get_or xs k old → y.id ≡ old.id → state_view y.state ≡ Live cells
-    → items_view (set xs k y) ≡ with_state i (Live cells) (items_view xs)
-edited_view {U} xs i k old y cells place is same live =
+pub edited_view : (xs : List MemberItem) (i : ItemId) (k : ℕ) (old y : MemberItem) (cells : List Cell)
+    → IsPlace xs i k → old ≡ get_or xs k old → y.id ≡ old.id → y.state ≡ Live cells
+    → (set xs k y) ≡ with_state i (Live cells) xs
+edited_view xs i k old y cells place is same live =
     let put = place.put y (same ∙ id_there xs i k old place is) in
     rw live at put
 
 -- a cell put in the place of one of the unit's, and nothing put
-pub written_view : {U : ℕ} (xs : List (Item U)) (i : ItemId) (k unit : ℕ) (old : Item U) (row after cells : List Cell) (cell : Cell) (done : Bool)
+pub written_view : {U : ℕ} (xs : List MemberItem) (i : ItemId) (k unit : ℕ) (old : MemberItem) (row after cells : List Cell) (cell : Cell) (done : Bool)
     → position_from (has_id i) 0 xs ≡ Some k → old ≡ get_or xs k old → old.state ≡ LiveRow row
-    → state_of (items_view xs) i ≡ Some (Live cells)
+    → state_of xs i ≡ Some (Live cells)
     → after ≡ (if done then slice_set row unit cell else row) → done ≡ true
-    → items_view (set xs k (record { id = old.id; state = LiveRow after })) ≡ with_state i (Live (slice_set cells unit cell)) (items_view xs)
+    → (set xs k (record { id = old.id; state = LiveRow after })) ≡ with_state i (Live (slice_set cells unit cell)) xs
 written_view {U} xs i k unit old row after cells cell done found is state live put made =
     let place = at_place xs xs i k (Some k) refl (sym found) refl in
     let both : Some (Live row) ≡ Some (Live cells) =
@@ -42,18 +41,18 @@ written_view {U} xs i k unit old row after cells cell done found is state live p
     edited_view xs i k old (record { id = old.id; state = LiveRow after }) (slice_set cells unit cell) place is refl
     (ap (λ (c : List Cell). Live c) new)
 
-pub unwritten : {U : ℕ} (xs : List (Item U)) (k : ℕ) (old : Item U) (row after : List Cell)
+pub unwritten : {U : ℕ} (xs : List MemberItem) (k : ℕ) (old : MemberItem) (row after : List Cell)
     → old ≡ get_or xs k old → old.state ≡ LiveRow row → after ≡ row
     → set xs k (record { id = old.id; state = LiveRow after }) ≡ xs
 unwritten {U} xs k old row after is state same =
     let back : LiveRow after ≡ old.state = ap (λ (c : List Cell). LiveRow c) same ∙ sym state in
     ap (λ (s : State U). set xs k (record { id = old.id; state = s })) back
-    ∙ (ap (λ (x : Item U). set xs k x) is ∙ set-get_or xs k old)
+    ∙ (ap (λ (x : MemberItem). set xs k x) is ∙ set-get_or xs k old)
 
 -- no tombstone is live
-pub none_dead : {U : ℕ} {P : Type 0} (xs : List (Item U)) (i : ItemId) (k : ℕ) (old : Item U) (v : Version) (cells : List Cell)
+pub none_dead : {U : ℕ} {P : Type 0} (xs : List MemberItem) (i : ItemId) (k : ℕ) (old : MemberItem) (v : Version) (cells : List Cell)
     → position_from (has_id i) 0 xs ≡ Some k → old ≡ get_or xs k old → old.state ≡ Tombstone v
-    → state_of (items_view xs) i ≡ Some (Live cells) → P
+    → state_of xs i ≡ Some (Live cells) → P
 none_dead {U} xs i k old v cells found is state live =
     let place = at_place xs xs i k (Some k) refl (sym found) refl in
     let both : Some (Dead v) ≡ Some (Live cells) =
@@ -68,18 +67,18 @@ pub record IsWritten (units : ℕ) (m : Member) (i : ItemId) (k : ℕ) (value : 
   pub holds : items ≡ with_state i (Live (cells_with m cells k value)) m.items
 
 pub written :
-    {U : ℕ} (m n : Member) (xs ys after : List (Item U)) (i : ItemId) (k place unit : ℕ) (value : List ℕ) (cell : Cell)
-    → m ≡ n → items_view xs ≡ m.items → ys ≡ xs → IsTarget ys i k place unit
+    {U : ℕ} (m n : Member) (xs ys after : List MemberItem) (i : ItemId) (k place unit : ℕ) (value : List ℕ) (cell : Cell)
+    → m ≡ n → xs ≡ m.items → ys ≡ xs → IsTarget ys i k place unit
     → option_or (if nat_eq k 0 then name_refusal n (Some i) value else None) (full_clock n) ≡ None
     → cell ≡ record { version = next_version n; value = value }
-    → ((j : ItemId) (cells : List Cell) → position_from (has_id j) 0 xs ≡ Some place → state_of (items_view xs) j ≡ Some (Live cells)
-    → (unit ≡ 0 → IsName cell.value) → items_view after ≡ with_state j (Live (slice_set cells unit cell)) (items_view xs))
-    → IsWritten U m i k value (items_view after)
+    → ((j : ItemId) (cells : List Cell) → position_from (has_id j) 0 xs ≡ Some place → state_of xs j ≡ Some (Live cells)
+    → (unit ≡ 0 → IsName cell.value) → after ≡ with_state j (Live (slice_set cells unit cell)) xs)
+    → IsWritten U m i k value after
 written {U} m n xs ys after i k place unit value cell view view_items same target free made wrote =
-    let found : position_from (has_id i) 0 xs ≡ Some place = subst (λ (zs : List (Item U)). position_from (has_id i) 0 zs ≡ Some place) same target.found in
+    let found : position_from (has_id i) 0 xs ≡ Some place = subst (λ (zs : List MemberItem). position_from (has_id i) 0 zs ≡ Some place) same target.found in
     let cells = target.live.0 in
-    let there : state_of (items_view xs) i ≡ Some (Live cells) =
-    subst (λ (zs : List (Item U)). state_of (items_view zs) i ≡ Some (Live cells)) same target.live.1 in
+    let there : state_of xs i ≡ Some (Live cells) =
+    subst (λ (zs : List MemberItem). state_of zs i ≡ Some (Live cells)) same target.live.1 in
     let may : MayWrite U m i k value = subst (λ (x : Member). MayWrite U x i k value) (sym view) (may_write_unit U n i k value target.inside free) in
     let new : cell ≡ record { version = next_version m; value = value } =
     subst (λ (x : Member). cell ≡ record { version = next_version x; value = value }) (sym view) made in

@@ -6,11 +6,10 @@ use Rattle.sfx_ids.specs.declared.cut.Cut.TheVariants.{At}
 use Rattle.sfx_ids.specs.Cut.{cut_le}
 use Rattle.sfx_ids.specs.declared.item_id.ItemId.{ItemId}
 use Rattle.sfx_item.specs.declared.cell.Cell.{Cell}
-use Rattle.sfx_item.specs.declared.item.Item.{Item}
 use Rattle.sfx_knowledge.specs.Knowledge.{Known}
 use Rattle.sfx_items.specs.Places.{has_id}
-use Rattle.sfx_model.specs.Items.{items_view}
-use Rattle.sfx_model.specs.Members.{Live, MemberItem, state_of}
+use Rattle.sfx_item.specs.Item.{Live, MemberItem}
+use Rattle.sfx_model.specs.Members.{state_of}
 use Rattle.sfx_model.specs.Readings.{is_unseen}
 
 -- The item's place is not before this one, and it has a unit whose version the knowledge does not contain.
@@ -18,8 +17,8 @@ abbrev pub is_next_unseen : ℕ → Known → Cut → MemberItem → Bool
 is_next_unseen units known from x = cut_le from (At x.id) && is_unseen units known x
 
 -- The item with this id is a live one at this place, and `unit` is its unit with this number.
-pub record IsTarget {U : ℕ} (items : List (Item U)) (i : ItemId) (k place unit : ℕ) : Type 0 where
+pub record IsTarget {U : ℕ} (items : List MemberItem) (i : ItemId) (k place unit : ℕ) : Type 0 where
   pub found : position_from (has_id i) 0 items ≡ Some place
-  pub live : (cells : List Cell) × (state_of (items_view items) i ≡ Some (Live cells))
+  pub live : (cells : List Cell) × (state_of items i ≡ Some (Live cells))
   pub same : unit ≡ k
   pub inside : k < U

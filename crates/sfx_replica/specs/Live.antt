@@ -1,6 +1,6 @@
 -- The live items at the front of a list.
 use Rattle.std.specs.Prelude.{List, [], ◌∷◌}
-use Rattle.sfx_model.specs.Members.{ItemState, Live, Dead, MemberItem}
+use Rattle.sfx_item.specs.Item.{ItemState, Live, Dead, MemberItem}
 
 -- The state is live.
 abbrev pub IsLiveState : ItemState → Type 0

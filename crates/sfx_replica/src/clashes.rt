@@ -1,7 +1,7 @@
 //! The live items whose names clash with a name.
 ghost use Rattle.std.specs.Prelude.{◌≡◌, IfOk};
 ghost use Rattle.std.specs.Option.{option_copied};
-ghost use Rattle.sfx_model.specs.Items.{item_view, items_view, state_view};
+ghost use Rattle.sfx_item.specs.Item.{state_view};
 ghost use Rattle.sfx_model.specs.Readings.{clashing_with, first_clash, is_clashing, is_in_the_way};
 
 use sfx_ids::ItemId;
@@ -16,7 +16,7 @@ pub fn clashing<const U: usize>(
     except: Option<&ItemId>,
 ) -> Result<Vec<ItemId>, AllocError>
     ensures { IfOk result (λ ids. ids.items ≡
-        clashing_with name.now (option_copied except.entry) (items_view items.now)) }
+        clashing_with name.now (option_copied except.entry) items.now) }
 {
     let mut ids = Vec::new(alloc);
     for item in items {
@@ -33,7 +33,7 @@ pub fn first_clash<const U: usize>(
     name: &Name,
     except: Option<&ItemId>,
 ) -> Option<ItemId>
-    ensures { result ≡ first_clash name.now (option_copied except.entry) (items_view items.now) }
+    ensures { result ≡ first_clash name.now (option_copied except.entry) items.now }
 {
     for item in items {
         if is_in_the_way(item, name, except) {
@@ -45,7 +45,7 @@ pub fn first_clash<const U: usize>(
 
 /// Whether the item is live and not excepted, and its name clashes with this one.
 fn is_in_the_way<const U: usize>(item: &Item<U>, name: &Name, except: Option<&ItemId>) -> bool
-    ensures { result ≡ is_in_the_way name.now (option_copied except.entry) (item_view item.now) }
+    ensures { result ≡ is_in_the_way name.now (option_copied except.entry) item.now }
 {
     except != Some(&item.id) && is_clashing(&item.state, name)
 }

@@ -5,8 +5,8 @@ ghost use Rattle.sfx_ids.specs.declared.item_id.ItemId.{ItemId};
 ghost use Rattle.sfx_item.specs.Name.{IsName};
 ghost use Rattle.sfx_item.specs.declared.cell.Cell.{Cell};
 ghost use Rattle.sfx_items.specs.Places.{has_id};
-ghost use Rattle.sfx_model.specs.Items.{items_view};
-ghost use Rattle.sfx_model.specs.Members.{AreRising, Live, Member, state_of};
+ghost use Rattle.sfx_item.specs.Item.{Live};
+ghost use Rattle.sfx_model.specs.Members.{AreRising, Member, state_of};
 ghost use Rattle.sfx_model.specs.States.{cells_at, with_state};
 ghost use Rattle.sfx_replica.specs.Items.{IsTarget};
 ghost use Rattle.sfx_replica.specs.Refusals.{state_refusal};
@@ -24,9 +24,9 @@ pub fn target<const U: usize>(
     id: &ItemId,
     k: usize,
 ) -> Result<(usize, UnitId<U>), EditFault>
-    requires rising { AreRising (items_view items.now) }
+    requires rising { AreRising items.now }
     ensures ok { IfOk result (λ found. IsTarget items.now id.now k found.0 found.1) }
-    ensures err { let state = state_of (items_view items.now) id.now in
+    ensures err { let state = state_of items.now id.now in
         IfErr result (λ fault. (m : Member) (value : List ℕ) → state_refusal U m id.now k value state ≡ Some fault) }
 {
     let Some(place) = place_of(items, id) else {
@@ -49,11 +49,11 @@ pub fn write<const U: usize>(
     cell: Cell,
 ) -> Result<(), Memory>
     requires there { place < vec_len items.old }
-    ensures ok { let old = items_view items.old.items in
+    ensures ok { let old = items.old.items in
         OnOk result ((i : ItemId) (cells : List Cell) →
         position_from (has_id i) 0 items.old.items ≡ Some place → state_of old i ≡ Some (Live cells) →
         (unit.entry ≡ 0 → IsName cell.value) →
-        items_view items.new.items ≡ with_state i (Live (slice_set cells unit.entry cell)) old) }
+        items.new.items ≡ with_state i (Live (slice_set cells unit.entry cell)) old) }
     ensures err { OnErr result (items.new.items ≡ items.old.items) }
 {
     let alloc = *items.allocator();

@@ -1,14 +1,13 @@
 //! The live items of two replicas, compared.
 ghost use Rattle.std.specs.Prelude.{◌≡◌, ◌≤◌, ◌↔◌, length, IsTrue};
 ghost use Rattle.sfx_model.specs.Headline.{live_items};
-ghost use Rattle.sfx_model.specs.Items.{items_view};
 ghost use Rattle.sfx_replica.specs.Live.{BeginsLive};
 
 use sfx_item::{Item, State};
 
 /// Whether both lists have the same live items, with the same ids, versions and values.
 pub fn same_live<const U: usize>(ours: &[Item<U>], theirs: &[Item<U>]) -> bool
-    ensures { IsTrue result ↔ (live_items (items_view ours.now) ≡ live_items (items_view theirs.now)) }
+    ensures { IsTrue result ↔ (live_items ours.now ≡ live_items theirs.now) }
 {
     let mut left = from_live(ours);
     let mut right = from_live(theirs);
@@ -24,8 +23,8 @@ pub fn same_live<const U: usize>(ours: &[Item<U>], theirs: &[Item<U>]) -> bool
 
 /// The items from the first live one on.
 fn from_live<const U: usize>(items: &[Item<U>]) -> &[Item<U>]
-    ensures same { live_items (items_view result.now) ≡ live_items (items_view items.now) }
-    ensures begins { BeginsLive (items_view result.now) }
+    ensures same { live_items result.now ≡ live_items items.now }
+    ensures begins { BeginsLive result.now }
     ensures within { length result.now ≤ length items.now }
 {
     for (place, item) in items.iter().enumerate() {

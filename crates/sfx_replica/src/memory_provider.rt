@@ -1,6 +1,5 @@
 ghost use Rattle.std.specs.Prelude.{◌≡◌, ◌⊎◌, ◌∷◌, [], Some, take, IfOk, IfSome, OnOk, OnErr};
 ghost use Rattle.std.specs.Option.{option_map};
-ghost use Rattle.sfx_model.specs.Items.{item_view, items_view, state_view};
 ghost use Rattle.sfx_model.specs.Members.{state_of};
 ghost use Rattle.sfx_model.specs.Readings.{clashing_with, first_from, unseen};
 ghost use Rattle.sfx_provider.specs.Commit.{committed};
@@ -111,7 +110,7 @@ impl<const U: usize> Provider<U> for MemoryProvider<U> {
 
     fn item(&mut self, alloc: Global, id: &ItemId) -> Result<Option<Item<U>>, ProviderFault>
         ensures call { Reads self.old self.new result }
-        ensures value { IfOk result (λ item. option_map (λ x. state_view x.state) item ≡
+        ensures value { IfOk result (λ item. option_map (λ x. x.state) item ≡
             state_of self.old.member.items id.now) }
         ensures same { IfOk result (λ item. IfSome item (λ x. x.id ≡ id.now)) }
     {
@@ -121,7 +120,7 @@ impl<const U: usize> Provider<U> for MemoryProvider<U> {
 
     fn next_from(&mut self, alloc: Global, from: &Cut) -> Result<Option<Item<U>>, ProviderFault>
         ensures call { Reads self.old self.new result }
-        ensures value { IfOk result (λ item. option_map item_view item ≡ first_from from.now self.old.member.items) }
+        ensures value { IfOk result (λ item. option_map item ≡ first_from from.now self.old.member.items) }
     {
         self.begin()?;
         Ok(copy_of(alloc, self.replica.next_from(from))?)
@@ -149,7 +148,7 @@ impl<const U: usize> Provider<U> for MemoryProvider<U> {
         limit: usize,
     ) -> Result<Vec<Item<U>>, ProviderFault>
         ensures call { Reads self.old self.new result }
-        ensures value { IfOk result (λ items. items_view items.items ≡
+        ensures value { IfOk result (λ items. items.items ≡
             take limit (unseen U to.now from.now self.old.member.items)) }
     {
         self.begin()?;

@@ -28,7 +28,6 @@ pub struct Replica<const U: usize> {
 
 impl<const U: usize> Model for Replica<U> {
     ghost use Rattle.sfx_model.specs.Members.{Member};
-    ghost use Rattle.sfx_model.specs.Items.{items_view};
     ghost use Rattle.sfx_model.specs.Consistent.{IsConsistent};
     ghost use Rattle.sfx_replica.specs.Replica.{member_view};
 
@@ -45,7 +44,6 @@ impl<const U: usize> Replica<U> {
     ghost use Rattle.sfx_model.specs.Consistent.{IsConsistent};
     ghost use Rattle.sfx_model.specs.Events.{Make};
     ghost use Rattle.sfx_model.specs.Headline.{live_items};
-    ghost use Rattle.sfx_model.specs.Items.{item_view, items_view, state_view};
     ghost use Rattle.sfx_model.specs.Members.{contains, shown, state_of, vector_at};
     ghost use Rattle.sfx_model.specs.Replica.{ActsIn, RepresentsReplica};
     ghost use Rattle.sfx_model.specs.States.{created_contents, edited_contents, next_created, next_item, next_version};
@@ -161,14 +159,14 @@ impl<const U: usize> Replica<U> {
 
     /// The items that the replica holds, tombstones included, in order of their ids.
     pub fn items(&self) -> &[Item<U>]
-        ensures { items_view result.now ≡ self.now.items }
+        ensures { result.now ≡ self.now.items }
     {
         self.items.as_slice()
     }
 
     /// The item with this id, or `None` where the replica holds none.
     pub fn item(&self, id: &ItemId) -> Option<&Item<U>>
-        ensures state { option_map (λ x. state_view x.now.state) result ≡ state_of self.now.items id.now }
+        ensures state { option_map (λ x. x.now.state) result ≡ state_of self.now.items id.now }
         ensures same { IfSome result (λ x. x.now.id ≡ id.now) }
     {
         find(self.items.as_slice(), id)
@@ -176,7 +174,7 @@ impl<const U: usize> Replica<U> {
 
     /// The first item whose place is not before `from`, or `None` where there is none.
     pub fn next_from(&self, from: &Cut) -> Option<&Item<U>>
-        ensures { option_map (λ x. item_view x.now) result ≡ first_from from.now self.now.items }
+        ensures { option_map (λ x. x.now) result ≡ first_from from.now self.now.items }
     {
         first_from(self.items.as_slice(), from)
     }
@@ -294,7 +292,7 @@ impl<const U: usize> Replica<U> {
     fn new_item(&self, values: Vec<Value>) -> Result<Item<U>, EditFault>
         requires whole { length values.items ≡ U }
         ensures refused { Refuses is_refusal result (create_refusal self.now values.items) }
-        ensures value { IfOk result (λ item. item_view item ≡ next_created self.now values.items) }
+        ensures value { IfOk result (λ item. item ≡ next_created self.now values.items) }
     {
         let alloc = *self.items.allocator();
         self.check_name(values[0].bytes(), None)?;

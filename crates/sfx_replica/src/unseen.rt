@@ -1,6 +1,5 @@
 //! The items of which someone does not know all.
 ghost use Rattle.std.specs.Prelude.{◌≡◌, IfOk, map, take};
-ghost use Rattle.sfx_model.specs.Items.{item_view, items_view, state_view};
 ghost use Rattle.sfx_model.specs.Readings.{is_unseen, is_unseen_at, unseen};
 ghost use Rattle.sfx_replica.specs.Items.{is_next_unseen};
 
@@ -19,7 +18,7 @@ pub fn unseen<const U: usize>(
     limit: usize,
 ) -> Result<Vec<ItemId>, AllocError>
     ensures { IfOk result (λ ids. ids.items ≡
-        map (λ x. x.id) (take limit (unseen U to.now from.now (items_view items.now)))) }
+        map (λ x. x.id) (take limit (unseen U to.now from.now items.now))) }
 {
     let mut ids = Vec::new(alloc);
     for item in items {
@@ -42,8 +41,8 @@ pub fn unseen_copies<const U: usize>(
     from: &Cut,
     limit: usize,
 ) -> Result<Vec<Item<U>>, Memory>
-    ensures { IfOk result (λ copies. items_view copies.items ≡
-        take limit (unseen U to.now from.now (items_view items.now))) }
+    ensures { IfOk result (λ copies. copies.items ≡
+        take limit (unseen U to.now from.now items.now)) }
 {
     let mut copies = Vec::new(alloc);
     for item in items {
@@ -60,14 +59,14 @@ pub fn unseen_copies<const U: usize>(
 
 /// Whether the item's place is not before `from`, and it has such a unit.
 fn is_next_unseen<const U: usize>(item: &Item<U>, to: &Knowledge<U>, from: &Cut) -> bool
-    ensures { result ≡ is_next_unseen U to.now from.now (item_view item.now) }
+    ensures { result ≡ is_next_unseen U to.now from.now item.now }
 {
     *from <= Cut::At(item.id) && is_unseen(item, to)
 }
 
 /// Whether the item has a unit whose version the knowledge does not contain.
 fn is_unseen<const U: usize>(item: &Item<U>, to: &Knowledge<U>) -> bool
-    ensures { result ≡ is_unseen U to.now (item_view item.now) }
+    ensures { result ≡ is_unseen U to.now item.now }
 {
     for k in 0..U {
         if let Some(unit) = UnitId::<U>::new(k)
@@ -81,7 +80,7 @@ fn is_unseen<const U: usize>(item: &Item<U>, to: &Knowledge<U>) -> bool
 
 /// Whether the knowledge does not contain the item's version of the unit.
 fn is_unseen_at<const U: usize>(item: &Item<U>, to: &Knowledge<U>, unit: UnitId<U>) -> bool
-    ensures { result ≡ is_unseen_at to.now item.now.id (state_view item.now.state) unit.entry }
+    ensures { result ≡ is_unseen_at to.now item.now.id item.now.state unit.entry }
 {
     !to.contains(&item.id, unit, &item.version(unit))
 }

@@ -7,7 +7,8 @@ use Rattle.sfx_ids.specs.ItemId.{creation_of}
 use Rattle.sfx_knowledge.specs.Knowledge.{KnowsVersion}
 use Rattle.sfx_model.specs.Consistent.{IsConsistent, live_name}
 use Rattle.sfx_model.specs.Events.{same_item}
-use Rattle.sfx_model.specs.Members.{ItemState, Dead, Member, MemberItem, state_of}
+use Rattle.sfx_item.specs.Item.{ItemState, Dead, MemberItem}
+use Rattle.sfx_model.specs.Members.{Member, state_of}
 use Rattle.std.specs.Prelude.{IsSome}
 use Rattle.sfx_model.specs.Putting.{put_item}
 use Rattle.sfx_provider.specs.Commit.{CommitData, commit_of}

@@ -1,5 +1,4 @@
 //! Small lists of items in order of their ids.
-ghost use Rattle.sfx_model.specs.Items.{items_view};
 ghost use Rattle.sfx_model.specs.Members.{AreRising};
 
 use crate::fixtures::{item_id, version};
@@ -23,14 +22,14 @@ fn dead(rt: &impl Abort, ticks: Dead) -> Item<1> {
 }
 
 fn add(rt: &impl Abort, items: &mut Vec<Item<1>>, ticks: Dead)
-    requires { AreRising (items_view items.old.items) }
-    ensures { AreRising (items_view items.new.items) }
+    requires { AreRising items.old.items }
+    ensures { AreRising items.new.items }
 {
     put(items, dead(rt, ticks)).expect(rt, "room");
 }
 
 fn list(rt: &impl Abort, alloc: Global, all: &[Dead]) -> Vec<Item<1>>
-    ensures { AreRising (items_view result.items) }
+    ensures { AreRising result.items }
 {
     let mut items = Vec::new(alloc);
     for ticks in all {
@@ -76,7 +75,7 @@ struct Told {
 }
 
 fn told_of(items: &[Item<1>], id: &ItemId) -> Told
-    requires { AreRising (items_view items.now) }
+    requires { AreRising items.now }
 {
     let next = neighbours_of(items, id);
     Told {

@@ -3,7 +3,7 @@ ghost use Rattle.std.specs.Prelude.{◌≡◌, ◌≤◌, ◌++◌, codes, OnOk,
 ghost use Rattle.std.specs.List.{flat_map};
 ghost use Rattle.sfx_ids.specs.declared.cut.Cut.TheVariants.{Start};
 ghost use Rattle.sfx_knowledge.specs.Forgotten.{fvec};
-ghost use Rattle.sfx_model.specs.Items.{item_view, items_view, state_view};
+ghost use Rattle.sfx_item.specs.Item.{state_view};
 ghost use Rattle.sfx_script.specs.Printed.{vector_text};
 ghost use Rattle.sfx_model.specs.Knowing.{laid_known};
 ghost use Rattle.sfx_reply.specs.Listing.{cell_text, item_line, listing, named_text, other_text, segment_text, state_text, unit_text};
@@ -141,7 +141,7 @@ fn write_other(out: &mut Vec<u8>, unit: usize, vector: &ClockVector) -> Result<(
 }
 
 fn write_items<const U: usize>(out: &mut Vec<u8>, items: &[Item<U>]) -> Result<(), Memory>
-    ensures { OnOk result (out.new.items ≡ out.old.items ++ flat_map item_line (items_view items.now)) }
+    ensures { OnOk result (out.new.items ≡ out.old.items ++ flat_map item_line items.now) }
 {
     for item in items {
         write_item_line(out, item)?;
@@ -150,7 +150,7 @@ fn write_items<const U: usize>(out: &mut Vec<u8>, items: &[Item<U>]) -> Result<(
 }
 
 fn write_item_line<const U: usize>(out: &mut Vec<u8>, item: &Item<U>) -> Result<(), Memory>
-    ensures { OnOk result (out.new.items ≡ out.old.items ++ item_line (item_view item.now)) }
+    ensures { OnOk result (out.new.items ≡ out.old.items ++ item_line item.now) }
 {
     append(out, b"item ")?;
     write_item(out, &item.id)?;

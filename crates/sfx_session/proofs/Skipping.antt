@@ -27,7 +27,8 @@ use Rattle.sfx_model.specs.Class.{Class, AllKnown, TakeWhole, Units, WholeConfli
 use Rattle.sfx_model.specs.Draft.{Draft, absent_draft, draft_of, unit_mark}
 use Rattle.sfx_model.specs.Entry.{Task, Unlisted, Change, task_plan, task_item, task_draft, unlisted_class, forgets_after, lacks, after_task, changed_by, change_others, is_stamped}
 use Rattle.sfx_model.specs.Knowing.{laid_known, ahead_of}
-use Rattle.sfx_model.specs.Members.{ItemState, MemberItem, Member, state_of}
+use Rattle.sfx_item.specs.Item.{ItemState, MemberItem}
+use Rattle.sfx_model.specs.Members.{Member, state_of}
 use Rattle.sfx_model.specs.Readings.{clashing_with, items_from}
 use Rattle.sfx_model.specs.Rules.{Rules}
 use Rattle.sfx_model.specs.Session.{Course, Outcome, Progress, SessionResult, after_range, ended, ending, go, is_end, is_more, reduced, session_from, session_of, set_out, stop_before, stop_or, with_entry}

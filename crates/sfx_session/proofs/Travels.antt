@@ -14,7 +14,8 @@ use Rattle.sfx_model.specs.declared.apply_end.ApplyEnd.{ApplyEnd}
 use Rattle.sfx_model.specs.Sets.{Has}
 use Rattle.sfx_model.specs.Batch.{Batch}
 use Rattle.sfx_model.specs.Entry.{Task, task_plan}
-use Rattle.sfx_model.specs.Members.{MemberItem, Member}
+use Rattle.sfx_item.specs.Item.{MemberItem}
+use Rattle.sfx_model.specs.Members.{Member}
 use Rattle.sfx_model.specs.Moments.{Moment, Learned, Stopped, state_at, committed, is_stop, stops}
 use Rattle.sfx_model.specs.Batch.{mode_of}
 use Rattle.sfx_model.specs.Knowing.{laid_known}

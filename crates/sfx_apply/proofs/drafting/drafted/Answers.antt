@@ -1,15 +1,14 @@
 use Rattle.std.proofs.Common.{subst, sym, lit<}
 use Rattle.std.specs.Option.{option_map}
 use Rattle.sfx_model.specs.Class.{Class}
-use Rattle.sfx_model.specs.Items.{item_view, state_view}
 use Rattle.sfx_apply.specs.Work.{FitsSides}
 use Rattle.sfx_apply.proofs.Deciding.{class_fits}
 use Rattle.sfx_apply.proofs.drafting.drafted.Goals as goal
 
 pub draft_of-requires : goal.draft_of-requires
 draft_of-requires g c =
-    let here = option_map (λ x. state_view x.now.state) c.args.local in
-    let change = item_view c.args.change.now in (
+    let here = option_map (λ x. x.now.state) c.args.local in
+    let change = c.args.change.now in (
       lit< tt,
       (
         lit< tt,

@@ -1,6 +1,5 @@
 use Rattle.std.proofs.Common.{◌≡◌, ◌++◌, drop}
 use Rattle.std.specs.List.{filter}
-use Rattle.sfx_model.specs.Items.{items_view}
 use Rattle.sfx_model.specs.Session.{is_live_state}
 use Rattle.sfx_apply.specs.Turns.{seen_views}
 use Rattle.sfx_apply.proofs.ordering.add_live.Given as goal
@@ -8,5 +7,5 @@ use Rattle.sfx_apply.proofs.ordering.add_live.Given as goal
 -- the live ones so far and those that are left are all
 abbrev pub invariant-loop-change : goal.invariant-loop-change
 invariant-loop-change g l =
-    seen_views l.turns.items ++ filter (λ x. is_live_state x.state) (items_view (drop l.change-index l.changes))
-    ≡ seen_views l.fn.turns.items ++ filter (λ x. is_live_state x.state) (items_view l.changes)
+    seen_views l.turns.items ++ filter (λ x. is_live_state x.state) (drop l.change-index l.changes)
+    ≡ seen_views l.fn.turns.items ++ filter (λ x. is_live_state x.state) l.changes

@@ -1,7 +1,6 @@
 use Rattle.std.proofs.Common.{Bool, if◌then◌else◌, lit<, ap, ◌∙◌}
 use Rattle.std.specs.Option.{option_map}
 use Rattle.sfx_model.specs.Clashes.{clash_draft}
-use Rattle.sfx_model.specs.Items.{item_view, state_view}
 use Rattle.sfx_settle.specs.Rules.{rules_view}
 use Rattle.sfx_apply.proofs.Deciding.{found_settled, found_valid}
 use Rattle.sfx_apply.proofs.planning.planned.Goals as goal
@@ -14,8 +13,8 @@ has_free_name-requires g c =
         lit< tt,
         (
           c.requires.waits,
-          found_valid g.row.U c.args.batch.now rules (item_view c.args.change.now) c.args.work.now (g.P.Provider.state c.args.provider.now)
-              (option_map (λ x. state_view x.now.state) c.args.local) c.in_ok-draft.draft c.keeps.ensures.consistent c.requires.waits c.requires.skip.keep
+          found_valid g.row.U c.args.batch.now rules c.args.change.now c.args.work.now (g.P.Provider.state c.args.provider.now)
+              (option_map (λ x. x.now.state) c.args.local) c.in_ok-draft.draft c.keeps.ensures.consistent c.requires.waits c.requires.skip.keep
               c.requires.whole c.requires.local c.in_ok-draft.ensures,
         ),
       ),
@@ -25,8 +24,8 @@ pub returns-clause-value : goal.returns-clause-value
 returns-clause-value g c =
     let rules = rules_view g.M.Merger.meaning c.args.rules.now in
     let draft = c.in_ok-draft.draft in
-    let is = found_settled g.row.U c.args.batch.now rules (item_view c.args.change.now) c.args.work.now (g.P.Provider.state c.args.provider.now)
-    (option_map (λ x. state_view x.now.state) c.args.local) draft
+    let is = found_settled g.row.U c.args.batch.now rules c.args.change.now c.args.work.now (g.P.Provider.state c.args.provider.now)
+    (option_map (λ x. x.now.state) c.args.local) draft
     c.keeps.ensures.consistent c.requires.waits c.requires.skip.clash c.requires.normal c.requires.local c.in_ok-draft.ensures in
     c.in_ok-settled.ensures
     ∙ ap (λ (free : Bool). if free then draft else clash_draft g.row.U rules.clash draft) c.in_ok-free.ensures.value

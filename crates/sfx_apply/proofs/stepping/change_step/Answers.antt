@@ -1,5 +1,4 @@
 use Rattle.std.proofs.Common.{inl, refl, le_trans}
-use Rattle.sfx_model.specs.Items.{item_view}
 use Rattle.sfx_provider.proofs.Exits.{if_ok_never, ok_never, on_err_always}
 use Rattle.sfx_settle.specs.Rules.{rules_view}
 use Rattle.sfx_apply.specs.Turns.{due_after, end_before, turned}
@@ -29,7 +28,7 @@ returns-in_err-commit_if g c =
     let m = p.state c.args.provider.now in
     let b = c.args.batch.now in
     let rules = rules_view g.M.Merger.meaning c.args.rules.now in
-    let change = item_view c.args.change.now in
+    let change = c.args.change.now in
     let turn = c.in_ok-end.ensures in
     let failed = c.in_err-commit_if.ensures in
     let after = due_after g.row.U c.args.group b rules change c.args.more c.args.work.now m in
@@ -54,7 +53,7 @@ returns g c =
     let m = p.state c.args.provider.now in
     let b = c.args.batch.now in
     let rules = rules_view g.M.Merger.meaning c.args.rules.now in
-    let change = item_view c.args.change.now in
+    let change = c.args.change.now in
     let turn = c.in_ok-end.ensures in
     let done = c.in_ok-commit_if.ensures in
     let after = due_after g.row.U c.args.group b rules change c.args.more c.args.work.now m in

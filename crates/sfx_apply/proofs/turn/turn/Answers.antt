@@ -1,6 +1,5 @@
 use Rattle.std.proofs.Common.{ap, le_refl, le_trans, sym, ◌∙◌}
 use Rattle.sfx_model.specs.Draft.{Draft}
-use Rattle.sfx_model.specs.Items.{item_view}
 use Rattle.sfx_provider.proofs.Exits.{if_ok_never, ok_never}
 use Rattle.sfx_settle.specs.Rules.{rules_view}
 use Rattle.sfx_apply.proofs.Entering.{read_turn, spent_turn}
@@ -13,7 +12,7 @@ use Rattle.sfx_apply.proofs.turn.turn.Goals as goal
 pub returns-then-is_spent : goal.returns-then-is_spent
 returns-then-is_spent g c =
     let rules = rules_view g.M.Merger.meaning c.args.rules.now in
-    let spent = spent_turn g.row.U c.args.batch.now rules (item_view c.args.change.now) c.args.work.now (g.P.Provider.state c.args.provider.now)
+    let spent = spent_turn g.row.U c.args.batch.now rules c.args.change.now c.args.work.now (g.P.Provider.state c.args.provider.now)
     (sym c.is_spent.ensures ∙ c.if-is_spent.true) in record {
       value = spent.0;
       work = spent.1;
@@ -78,7 +77,7 @@ returns g c =
     let made = c.in_ok-draft.ensures in
     let added = c.in_ok-add.ensures in
     let rules = rules_view g.M.Merger.meaning c.args.rules.now in
-    let taken = read_turn c.args.batch.now rules (item_view c.args.change.now) c.args.work.now c.add.new.self (p.state now)
+    let taken = read_turn c.args.batch.now rules c.args.change.now c.args.work.now c.add.new.self (p.state now)
     (p.state c.item_now.new.provider) c.as_ref-2.result c.in_ok-local.local c.in_ok-draft.draft c.draft.inside.marks
     c.keeps-2.ensures.consistent c.requires.waits c.keeps.ensures.batch c.requires.skip c.requires.no_more c.requires.sent (sym c.is_spent.ensures ∙ c.if-is_spent.false)
     c.as_ref-2.ensures.value read.value read.rests.same (ap (λ (d : Draft). d.marks) c.draft.view_is) made.value

@@ -1,7 +1,6 @@
 use Rattle.std.proofs.Common.{◌∙◌}
 use Rattle.sfx_batch.proofs.Due.{right_batch}
 use Rattle.sfx_batch.proofs.making.due_batch.Goals as goal
-use Rattle.sfx_model.specs.Items.{items_view}
 use Rattle.sfx_provider.specs.Head.{HeadData}
 
 pub invariant_of-result : goal.invariant_of-result
@@ -15,7 +14,7 @@ invariant_of-result g c =
     let changes = c.in_ok-changes.ensures.changes in
     let here = c.in_ok-here.ensures.value in
     right_batch g.row.U c.args.size m c.args.mode c.args.known.now c.args.from.now head c.in_ok-changes.to
-    (items_view c.in_ok-changes.changes.items) c.in_ok-here.here.items
+    c.in_ok-changes.changes.items c.in_ok-here.here.items
     c.keeps.ensures.consistent c.requires.place
     (c.id.view_is ∙ c.in_ok-id.ensures.value)
     (rw were at end)

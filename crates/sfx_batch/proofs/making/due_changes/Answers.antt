@@ -1,13 +1,12 @@
 use Rattle.std.proofs.Common.{◌∙◌, ap, arith}
 use Rattle.sfx_batch.proofs.Taking.{end_taken, first_taken}
 use Rattle.sfx_batch.proofs.making.due_changes.Goals as goal
-use Rattle.sfx_model.specs.Items.{items_view}
 use Rattle.sfx_model.specs.Readings.{unseen}
 
 pub returns-clause-changes : goal.returns-clause-changes
 returns-clause-changes g c =
     let given = c.in_ok-changes.ensures.value in
-    ap items_view c.cut_short-to.ensures.items
+    c.cut_short-to.ensures.items
     ∙ first_taken c.args.size c.in_ok-changes.changes.items
     (unseen g.row.U c.args.known.now c.args.from.now (g.P.Provider.state c.args.source.now).items)
     c.ranges.size.fits (rw c.saturating_add.ensures at given)

@@ -1,6 +1,5 @@
 use Rattle.std.proofs.Common.{◌≡◌, ◌-◌, ◌<◌, ◌∙◌, Some, ap, arith, length, suc, sym}
-use Rattle.sfx_item.specs.declared.item.Item.{Item}
-use Rattle.sfx_model.specs.Items.{item_view, items_view}
+use Rattle.sfx_item.specs.Item.{MemberItem}
 use Rattle.sfx_items.specs.Places.{count_before}
 use Rattle.sfx_items.proofs.ItemListLemmas.{count_within, last_at, last_none}
 use Rattle.sfx_items.proofs.beside.last_before.Goals as goal
@@ -24,7 +23,7 @@ offset_bounds-items-count g c =
 
 pub returns : goal.returns
 returns g c =
-    let count : count_before c.args.place.now (items_view c.args.items.now) ≡ suc (c.place_from-count.result - 1) =
+    let count : count_before c.args.place.now c.args.items.now ≡ suc (c.place_from-count.result - 1) =
     let e = c.place_from-count.ensures in omega (arith, e) in
-    ap (λ (x : Item _). Some (item_view x)) c.index-items-count.is
+    ap (λ (x : MemberItem). Some x) c.index-items-count.is
     ∙ sym (last_at c.args.place.now c.args.items.now (c.place_from-count.result - 1) c.index-items-count.result c.requires.rising count)

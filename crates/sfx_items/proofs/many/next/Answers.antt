@@ -18,7 +18,7 @@ returns-in-Less-clause-next g c =
     let put = c.in-Some-Some.put.now in
     next_is_held c.args.held.now.items c.args.puts.now.items c.pop_front-in-Less.new.self.items c.pop_front-in-Less.result item put
     c.requires.puts c.in-Some-Some.ensures.item.3.0 c.in-Some-Some.ensures'.item.3.0 c.in-Some-Some.ensures.item.1 c.in-Some-Some.ensures'.item.1
-    (id_less item.id put.id (sym c.cmp.ensures ∙ c.in-Less.is)) c.pop_front-in-Less.ensures.items c.pop_front-in-Less.ensures.rest
+    (id_less item.id put.id (rw (sym c.item.view_is, sym c.put.view_is) (sym c.cmp.ensures ∙ c.in-Less.is))) c.pop_front-in-Less.ensures.items c.pop_front-in-Less.ensures.rest
 
 pub returns-in-Equal-clause-next : goal.returns-in-Equal-clause-next
 returns-in-Equal-clause-next g c =
@@ -27,7 +27,7 @@ returns-in-Equal-clause-next g c =
     next_is_both c.args.held.now.items c.args.puts.now.items c.pop_front-in-Equal.new.self.items c.pop_front-in-Equal-2.new.self.items
     c.pop_front-in-Equal.result c.pop_front-in-Equal-2.result c.and.result item put
     c.requires.puts c.in-Some-Some.ensures.item.3.0 c.in-Some-Some.ensures'.item.3.0 c.in-Some-Some.ensures.item.1 c.in-Some-Some.ensures'.item.1
-    (id_equal item.id put.id (sym c.cmp.ensures ∙ c.in-Equal.is)) c.pop_front-in-Equal.ensures.items c.pop_front-in-Equal.ensures.rest
+    (id_equal item.id put.id (rw (sym c.item.view_is, sym c.put.view_is) (sym c.cmp.ensures ∙ c.in-Equal.is))) c.pop_front-in-Equal.ensures.items c.pop_front-in-Equal.ensures.rest
     c.pop_front-in-Equal-2.ensures.items c.pop_front-in-Equal-2.ensures.rest c.and.ensures
 
 pub returns-in-Greater-clause-next : goal.returns-in-Greater-clause-next
@@ -36,5 +36,5 @@ returns-in-Greater-clause-next g c =
     let put = c.in-Some-Some.put.now in
     next_is_put c.args.held.now.items c.args.puts.now.items c.pop_front-in-Greater.new.self.items c.pop_front-in-Greater.result item put
     c.requires.held c.requires.puts c.in-Some-Some.ensures.item.3.0 c.in-Some-Some.ensures'.item.3.0 c.in-Some-Some.ensures.item.1
-    c.in-Some-Some.ensures'.item.1 (id_greater item.id put.id (sym c.cmp.ensures ∙ c.in-Greater.is)) c.pop_front-in-Greater.ensures.items
+    c.in-Some-Some.ensures'.item.1 (id_greater item.id put.id (rw (sym c.item.view_is, sym c.put.view_is) (sym c.cmp.ensures ∙ c.in-Greater.is))) c.pop_front-in-Greater.ensures.items
     c.pop_front-in-Greater.ensures.rest

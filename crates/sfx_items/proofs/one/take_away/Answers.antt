@@ -1,5 +1,4 @@
 use Rattle.std.proofs.Common.{ap, arith, length, sym}
-use Rattle.sfx_model.specs.Items.{items_view}
 use Rattle.sfx_items.proofs.ItemListLemmas.{at_place, drop_absent, id_there, not_there, state_there}
 use Rattle.sfx_items.proofs.one.take_away.Goals as goal
 
@@ -29,7 +28,7 @@ returns-in-Some-clause-same g c =
 pub returns-in-None-clause-items : goal.returns-in-None-clause-items
 returns-in-None-clause-items g c =
     let none = not_there c.args.items.now.items c.as_slice.result.now c.args.id.now c.place_of.result c.as_slice.ensures.value c.place_of.ensures c.in-None.is in
-    sym (drop_absent c.args.id.now (items_view c.args.items.now.items) none)
+    sym (drop_absent c.args.id.now c.args.items.now.items none)
 
 pub returns-in-None-clause-state : goal.returns-in-None-clause-state
 returns-in-None-clause-state g c =

@@ -1,5 +1,4 @@
 use Rattle.std.proofs.Common.{◌≡◌, ◌≤◌, ◌++◌, length}
-use Rattle.sfx_model.specs.Items.{items_view}
 use Rattle.sfx_model.specs.Readings.{items_from}
 use Rattle.sfx_provider.specs.Leaves.{Rests}
 use Rattle.sfx_provider.proofs.walking.all_items.Given as goal
@@ -7,7 +6,7 @@ use Rattle.sfx_provider.proofs.walking.all_items.Given as goal
 -- The items so far and those that are left are all.
 abbrev pub invariant-walk : goal.invariant-walk
 invariant-walk g l = let p = g.P.Provider in record {
-  walked : items_view l.items.items ++ items_from l.from (p.state l.fn.provider).items ≡ (p.state l.fn.provider).items;
+  walked : l.items.items ++ items_from l.from (p.state l.fn.provider).items ≡ (p.state l.fn.provider).items;
   rests : Rests p.state p.kept p.settled p.came l.fn.provider l.provider;
   faults : p.faults l.fn.provider ≤ p.faults l.provider;
 }

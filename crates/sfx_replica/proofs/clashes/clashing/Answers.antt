@@ -2,8 +2,7 @@ use Rattle.std.proofs.Common.{◌≡◌, ◌∙◌, ◌+◌, ◌++◌, ◌∷◌
 use Rattle.std.proofs.lemmas.List.{append-nil}
 use Rattle.std.proofs.lemmas.Result.{err_from_is_err_and}
 use Rattle.std.specs.Option.{option_copied}
-use Rattle.sfx_model.specs.Items.{item_view, items_view}
-use Rattle.sfx_model.specs.Members.{MemberItem}
+use Rattle.sfx_item.specs.Item.{MemberItem}
 use Rattle.sfx_model.specs.Readings.{clashing_with}
 use Rattle.sfx_replica.proofs.Scanning.{clashing_more, clashing_past, end_gives, next_gives}
 use Rattle.sfx_replica.proofs.clashes.clashing.Goals as goal
@@ -16,18 +15,18 @@ pub loop-item-preserved : goal.loop-item-preserved
 loop-item-preserved g c =
     let name = c.args.name.now in
     let except = option_copied c.args.except in
-    let left = items_view (drop (c.loop-item.item-index + 1) c.args.items.now) in
-    let whole = clashing_with name except (items_view c.args.items.now) in
-    let so_far : whole ≡ c.loop-item.ids.items ++ clashing_with name except (item_view c.item-item.result ∷ left) =
+    let left = (drop (c.loop-item.item-index + 1) c.args.items.now) in
+    let whole = clashing_with name except c.args.items.now in
+    let so_far : whole ≡ c.loop-item.ids.items ++ clashing_with name except (c.item-item.result ∷ left) =
     next_gives (λ (xs : List MemberItem). c.loop-item.ids.items ++ clashing_with name except xs) c.args.items.now c.loop-item.item-index c.item-item.result whole
     c.item-item.is c.loop-item-test.true c.loop-item.invariant in
     elim c.if-is_in_the_way.branch [
       | then-is_in_the_way+in_ok-push w ↦
-          clashing_more name except (item_view c.item-item.result) left whole c.loop-item.ids.items c.if-is_in_the_way.ids.items
+          clashing_more name except c.item-item.result left whole c.loop-item.ids.items c.if-is_in_the_way.ids.items
           (sym c.is_in_the_way.ensures ∙ w.if-is_in_the_way.true) so_far (ap (λ ids. ids.items) w.ids-is ∙ w.in_ok-push.ensures.items)
       | else-is_in_the_way w ↦
           rw w.ids-is
-          (clashing_past name except (item_view c.item-item.result) left whole c.loop-item.ids.items
+          (clashing_past name except c.item-item.result left whole c.loop-item.ids.items
           (sym c.is_in_the_way.ensures ∙ w.if-is_in_the_way.false) so_far)
     ]
 
@@ -41,5 +40,5 @@ returns g c =
     let name = c.args.name.now in
     let except = option_copied c.args.except in
     let all = end_gives (λ (xs : List MemberItem). c.loop-item.ids.items ++ clashing_with name except xs) c.args.items.now c.loop-item.item-index
-    (clashing_with name except (items_view c.args.items.now)) c.loop-item-test.false c.loop-item.invariant in
+    (clashing_with name except c.args.items.now) c.loop-item-test.false c.loop-item.invariant in
     sym (all ∙ append-nil c.loop-item.ids.items)

@@ -1,12 +1,12 @@
 use Rattle.std.proofs.Common.{◌∙◌, Some, ap, arith, refl, sym}
-use Rattle.sfx_model.specs.Items.{items_view, state_view}
+use Rattle.sfx_item.specs.Item.{state_view}
 use Rattle.sfx_items.proofs.ItemListLemmas.{at_place, not_there}
 use Rattle.sfx_replica.proofs.Refusing.{past_from, refused_absent, refused_dead, refused_unit}
 use Rattle.sfx_replica.proofs.items.target.Goals as goal
 
 pub returns-in_default-clause-err : goal.returns-in_default-clause-err
 returns-in_default-clause-err g c m value =
-    refused_absent g.row.U m (items_view c.args.items.now) c.args.id.now c.args.k value
+    refused_absent g.row.U m c.args.items.now c.args.id.now c.args.k value
     (not_there c.args.items.now c.args.items.now c.args.id.now c.place_of.result refl c.place_of.ensures c.in_default.is)
 
 pub bounds-items-place : goal.bounds-items-place
@@ -16,7 +16,7 @@ bounds-items-place g c =
 pub returns-in-Dead-clause-err : goal.returns-in-Dead-clause-err
 returns-in-Dead-clause-err g c m value =
     let place = at_place c.args.items.now c.args.items.now c.args.id.now c.in-Some.place c.place_of.result refl c.place_of.ensures c.in-Some.is in
-    refused_dead g.row.U m (items_view c.args.items.now) c.args.id.now c.args.k value c.in-Dead.field-0
+    refused_dead g.row.U m c.args.items.now c.args.id.now c.args.k value c.in-Dead.field-0
     (place.state c.index-items-place.result ∙ ap (λ s. Some (state_view s)) c.in-Dead.is)
 
 pub offset_bounds-items-place : goal.offset_bounds-items-place
@@ -37,6 +37,6 @@ returns-in-Some-new-clause-ok g c =
 pub returns-in-None-clause-err : goal.returns-in-None-clause-err
 returns-in-None-clause-err g c m value =
     let place = at_place c.args.items.now c.args.items.now c.args.id.now c.in-Some.place c.place_of.result refl c.place_of.ensures c.in-Some.is in
-    refused_unit g.row.U m (items_view c.args.items.now) c.args.id.now c.args.k value c.in_default-state.field-0
+    refused_unit g.row.U m c.args.items.now c.args.id.now c.args.k value c.in_default-state.field-0
     (place.state c.index-items-place.result ∙ ap (λ s. Some (state_view s)) c.in_default-state.is)
     (past_from c.args.k g.row.U c.in-None.ensures.valid.1)

@@ -1,6 +1,5 @@
 use Rattle.std.proofs.Common.{◌≡◌, ◌∙◌, ◌<◌, ◌≤◌, sym, true, false, drop, length, arith}
 use Rattle.std.proofs.lemmas.Result.{err_from_is_err_and}
-use Rattle.sfx_model.specs.Items.{item_view, items_view}
 use Rattle.sfx_model.specs.Readings.{unseen}
 use Rattle.sfx_replica.specs.Items.{is_next_unseen}
 use Rattle.sfx_replica.proofs.Gathering.{gathered_end, gathered_full, gathers_none, next_found, next_passed}
@@ -11,18 +10,18 @@ loop-item-preserved g c =
     let len = c.len.ensures in
     let less = c.if-len-limit.false in
     let room : length c.loop-item.ids.items < c.args.limit = omega (arith, len, less) in
-    let next : is_next_unseen g.row.U c.args.to.now c.args.from.now (item_view c.item-item.result) ≡ true = sym c.is_next_unseen.ensures ∙ c.if-not-is_next_unseen.false in
+    let next : is_next_unseen g.row.U c.args.to.now c.args.from.now c.item-item.result ≡ true = sym c.is_next_unseen.ensures ∙ c.if-not-is_next_unseen.false in
     rw c.in_ok-push.ensures.items
     (next_found (λ x. x.id) c.args.limit c.args.to.now c.args.from.now c.args.items.now c.loop-item.item-index c.item-item.result c.loop-item.ids.items
     c.item-item.is c.loop-item-test.true c.loop-item.invariant next room)
 
 pub loop-item-init : goal.loop-item-init
 loop-item-init g c =
-    rw c.new-ids.ensures.items (gathers_none (λ x. x.id) c.args.limit (unseen g.row.U c.args.to.now c.args.from.now (items_view c.args.items.now)))
+    rw c.new-ids.ensures.items (gathers_none (λ x. x.id) c.args.limit (unseen g.row.U c.args.to.now c.args.from.now c.args.items.now))
 
 pub loop-item-preserved-then-not-is_next_unseen : goal.loop-item-preserved-then-not-is_next_unseen
 loop-item-preserved-then-not-is_next_unseen g c =
-    let next : is_next_unseen g.row.U c.args.to.now c.args.from.now (item_view c.item-item.result) ≡ false = sym c.is_next_unseen.ensures ∙ c.if-not-is_next_unseen.true in
+    let next : is_next_unseen g.row.U c.args.to.now c.args.from.now c.item-item.result ≡ false = sym c.is_next_unseen.ensures ∙ c.if-not-is_next_unseen.true in
     next_passed (λ x. x.id) c.args.limit c.args.to.now c.args.from.now c.args.items.now c.loop-item.item-index c.item-item.result c.loop-item.ids.items
     c.item-item.is c.loop-item-test.true c.loop-item.invariant next
 
@@ -31,8 +30,8 @@ returns-then-len-limit g c =
     let len = c.len.ensures in
     let more = c.if-len-limit.true in
     let full : c.args.limit ≤ length c.loop-item.ids.items = omega (arith, len, more) in
-    gathered_full (λ x. x.id) c.args.limit (unseen g.row.U c.args.to.now c.args.from.now (items_view c.args.items.now)) c.loop-item.ids.items
-    (unseen g.row.U c.args.to.now c.args.from.now (items_view (drop c.loop-item.item-index c.args.items.now))) c.loop-item.invariant full
+    gathered_full (λ x. x.id) c.args.limit (unseen g.row.U c.args.to.now c.args.from.now c.args.items.now) c.loop-item.ids.items
+    (unseen g.row.U c.args.to.now c.args.from.now (drop c.loop-item.item-index c.args.items.now)) c.loop-item.invariant full
 
 pub returns-in_err-push : goal.returns-in_err-push
 returns-in_err-push g c =

@@ -1,5 +1,4 @@
 use Rattle.std.proofs.Common.{drop}
-use Rattle.sfx_model.specs.Items.{items_view}
 use Rattle.sfx_model.specs.Readings.{unseen}
 use Rattle.sfx_replica.proofs.Gathering.{Gathers}
 use Rattle.sfx_replica.proofs.unseen.unseen_copies.Given as goal
@@ -7,4 +6,4 @@ use Rattle.sfx_replica.proofs.unseen.unseen_copies.Given as goal
 -- what was found so far, and what the items that are left give
 abbrev pub invariant-loop-item : goal.invariant-loop-item
 invariant-loop-item g l =
-    Gathers (λ x. x) l.limit (unseen g.row.U l.to l.from (items_view l.items)) (items_view l.copies.items) (unseen g.row.U l.to l.from (items_view (drop l.item-index l.items)))
+    Gathers (λ x. x) l.limit (unseen g.row.U l.to l.from l.items) l.copies.items (unseen g.row.U l.to l.from (drop l.item-index l.items))

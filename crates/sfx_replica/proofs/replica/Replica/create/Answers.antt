@@ -1,7 +1,8 @@
 use Rattle.std.proofs.Common.{◌≡◌, ◌+◌, ◌<◌, None, ap, sym, refl, ◌∙◌, subst, slice_get}
 use Rattle.sfx_ids.specs.Tick.{max_tick}
 use Rattle.sfx_model.specs.Events.{Make}
-use Rattle.sfx_model.specs.Members.{Member, MemberItem, shown}
+use Rattle.sfx_item.specs.Item.{MemberItem}
+use Rattle.sfx_model.specs.Members.{Member, shown}
 use Rattle.sfx_model.specs.Putting.{put_item}
 use Rattle.sfx_model.specs.Replica.{ActsIn, RepresentsReplica}
 use Rattle.sfx_model.specs.States.{created_contents, next_created, next_item, next_version}

@@ -2,7 +2,6 @@ use Rattle.std.proofs.Common.{◌≡◌, ◌∙◌, List, ap, arith, sym, subst,
 use Rattle.std.proofs.lemmas.Result.{err_from_is_err_and}
 use Rattle.sfx_item.specs.declared.item.Item.{Item}
 use Rattle.sfx_items.proofs.ItemListLemmas.{puts_rising}
-use Rattle.sfx_model.specs.Items.{items_view}
 use Rattle.sfx_model.specs.Members.{Member}
 use Rattle.sfx_model.specs.Putting.{drop_all, put_all}
 use Rattle.sfx_provider.specs.Commit.{CommitData, committed}
@@ -17,7 +16,7 @@ drop_all-requires g c =
     c.as_slice-2.ensures.value ∙ ap (λ (x : CommitData). x.drops) c.commit.view_is in (
       omega arith,
       (
-        rw c.in_ok-put_all.ensures.ok (puts_rising (items_view c.in_ok-puts.puts.items) (items_view c.self.inside.items.items) c.self.invariant.rising),
+        rw c.in_ok-put_all.ensures.ok (puts_rising c.in_ok-puts.puts.items c.self.inside.items.items c.self.invariant.rising),
         rw drops c.requires.fits.drops,
       ),
     )
@@ -26,12 +25,12 @@ pub invariant_of-self-2 : goal.invariant_of-self-2
 invariant_of-self-2 g c =
     let m = member_view c.self.inside.id c.self.inside.clock c.self.inside.knowledge c.self.inside.forgotten c.self.inside.items.items in
     let fits : Fits g.row.U c.args.commit.now m = subst (λ (x : Member). Fits g.row.U c.args.commit.now x) (sym c.self.view_is) c.requires.fits in
-    let put : items_view c.put_all.new.items.items ≡ put_all (items_view c.commit.inside.puts.items) m.items =
+    let put : c.put_all.new.items.items ≡ put_all c.commit.inside.puts.items m.items =
     rw (c.in_ok-put_all.ensures.ok, c.in_ok-puts.ensures, c.as_slice.ensures.value) refl in
-    let items : items_view c.drop_all.new.items.items ≡ drop_all c.commit.inside.drops.items (put_all (items_view c.commit.inside.puts.items) m.items) =
+    let items : c.drop_all.new.items.items ≡ drop_all c.commit.inside.drops.items (put_all c.commit.inside.puts.items m.items) =
     rw (c.drop_all.ensures, c.as_slice-2.ensures.value, put) refl in
-    let commit : CommitData = record { clock = c.commit.inside.clock; knowledge = c.commit.inside.knowledge; forgotten = c.commit.inside.forgotten; puts = items_view c.commit.inside.puts.items; drops = c.commit.inside.drops.items } in
-    installed_consistent g.row.U commit m c.in_ok-knowledge.knowledge c.in_ok-forgotten.forgotten (items_view c.drop_all.new.items.items)
+    let commit : CommitData = record { clock = c.commit.inside.clock; knowledge = c.commit.inside.knowledge; forgotten = c.commit.inside.forgotten; puts = c.commit.inside.puts.items; drops = c.commit.inside.drops.items } in
+    installed_consistent g.row.U commit m c.in_ok-knowledge.knowledge c.in_ok-forgotten.forgotten c.drop_all.new.items.items
     c.self.invariant (subst (λ (x : CommitData). Fits g.row.U x m) (sym c.commit.view_is) fits)
     c.in_ok-knowledge.ensures.form c.in_ok-knowledge.ensures.ticks c.in_ok-knowledge.ensures.list c.in_ok-forgotten.ensures items
 
@@ -73,11 +72,11 @@ returns-in_err-put_all-clause-err g c =
 pub returns-clause-ok : goal.returns-clause-ok
 returns-clause-ok g c =
     let m = member_view c.self.inside.id c.self.inside.clock c.self.inside.knowledge c.self.inside.forgotten c.self.inside.items.items in
-    let put : items_view c.put_all.new.items.items ≡ put_all (items_view c.commit.inside.puts.items) m.items =
+    let put : c.put_all.new.items.items ≡ put_all c.commit.inside.puts.items m.items =
     rw (c.in_ok-put_all.ensures.ok, c.in_ok-puts.ensures, c.as_slice.ensures.value) refl in
-    let items : items_view c.drop_all.new.items.items ≡ drop_all c.commit.inside.drops.items (put_all (items_view c.commit.inside.puts.items) m.items) =
+    let items : c.drop_all.new.items.items ≡ drop_all c.commit.inside.drops.items (put_all c.commit.inside.puts.items m.items) =
     rw (c.drop_all.ensures, c.as_slice-2.ensures.value, put) refl in
-    let commit : CommitData = record { clock = c.commit.inside.clock; knowledge = c.commit.inside.knowledge; forgotten = c.commit.inside.forgotten; puts = items_view c.commit.inside.puts.items; drops = c.commit.inside.drops.items } in
+    let commit : CommitData = record { clock = c.commit.inside.clock; knowledge = c.commit.inside.knowledge; forgotten = c.commit.inside.forgotten; puts = c.commit.inside.puts.items; drops = c.commit.inside.drops.items } in
     let after = member_view c.self.inside.id c.commit.inside.clock c.in_ok-knowledge.knowledge c.in_ok-forgotten.forgotten c.drop_all.new.items.items in
     let now : after ≡ committed g.row.U commit m = rw (c.in_ok-knowledge.ensures.list, c.in_ok-forgotten.ensures, items) refl in
     subst (λ (x : Member). after ≡ committed g.row.U c.args.commit.now x) c.self.view_is

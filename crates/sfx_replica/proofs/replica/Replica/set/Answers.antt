@@ -3,8 +3,8 @@ use Rattle.std.proofs.lemmas.Result.{err_from_is_err_and}
 use Rattle.sfx_item.specs.declared.cell.Cell.{Cell}
 use Rattle.sfx_item.specs.declared.item.Item.{Item}
 use Rattle.sfx_model.specs.Events.{Make}
-use Rattle.sfx_model.specs.Items.{items_view}
-use Rattle.sfx_model.specs.Members.{Live, Member, shown}
+use Rattle.sfx_item.specs.Item.{Live}
+use Rattle.sfx_model.specs.Members.{Member, shown}
 use Rattle.sfx_model.specs.Replica.{ActsIn, RepresentsReplica}
 use Rattle.sfx_model.specs.States.{cells_with, edited_contents, next_version, with_state}
 use Rattle.sfx_model.proofs.Acts.{edited_acts}
@@ -117,7 +117,7 @@ returns-in_err-write-clause-acts g c =
 pub invariant_of-self-2 : goal.invariant_of-self-2
 invariant_of-self-2 g c =
     let m = member_view c.self.inside.id c.self.inside.clock c.self.inside.knowledge c.self.inside.forgotten c.self.inside.items.items in
-    let wrote : IsWritten g.row.U m c.args.id.now c.args.k c.args.value (items_view c.write.new.items.items) =
+    let wrote : IsWritten g.row.U m c.args.id.now c.args.k c.args.value c.write.new.items.items =
     written m c.args.self.now c.self.inside.items.items c.as_slice.result.now c.write.new.items.items c.args.id.now c.args.k c.in_ok-place.place c.in_ok-place.unit
     c.args.value c.in_ok-cell.cell c.self.view_is refl c.as_slice.ensures.value c.in_ok-place.ensures.ok c.in_ok-cell.ensures.refused c.in_ok-cell.ensures.value
     c.in_ok-write.ensures.ok in
@@ -138,13 +138,13 @@ returns-clause-made g c = ap (λ (x : Cell). x.version) c.in_ok-cell.ensures.val
 pub returns-clause-after : goal.returns-clause-after
 returns-clause-after g c =
     let m = member_view c.self.inside.id c.self.inside.clock c.self.inside.knowledge c.self.inside.forgotten c.self.inside.items.items in
-    let wrote : IsWritten g.row.U m c.args.id.now c.args.k c.args.value (items_view c.write.new.items.items) =
+    let wrote : IsWritten g.row.U m c.args.id.now c.args.k c.args.value c.write.new.items.items =
     written m c.args.self.now c.self.inside.items.items c.as_slice.result.now c.write.new.items.items c.args.id.now c.args.k c.in_ok-place.place c.in_ok-place.unit
     c.args.value c.in_ok-cell.cell c.self.view_is refl c.as_slice.ensures.value c.in_ok-place.ensures.ok c.in_ok-cell.ensures.refused c.in_ok-cell.ensures.value
     c.in_ok-write.ensures.ok in
     let now : edited m c.args.id.now c.args.k c.args.value ≡ risen m (with_state c.args.id.now (Live (cells_with m wrote.cells c.args.k c.args.value)) m.items) =
     ap (edited_from m c.args.id.now c.args.k c.args.value) wrote.live in
-    let n = risen m (items_view c.write.new.items.items) in
+    let n = risen m c.write.new.items.items in
     subst (λ (x : Member). n ≡ edited x c.args.id.now c.args.k c.args.value) c.self.view_is (ap (risen m) wrote.holds ∙ sym now)
 
 pub returns-clause-err : goal.returns-clause-err
@@ -153,11 +153,11 @@ returns-clause-err g c = tt
 pub returns-clause-acts : goal.returns-clause-acts
 returns-clause-acts g c w ok units stands =
     let m = member_view c.self.inside.id c.self.inside.clock c.self.inside.knowledge c.self.inside.forgotten c.self.inside.items.items in
-    let wrote : IsWritten g.row.U m c.args.id.now c.args.k c.args.value (items_view c.write.new.items.items) =
+    let wrote : IsWritten g.row.U m c.args.id.now c.args.k c.args.value c.write.new.items.items =
     written m c.args.self.now c.self.inside.items.items c.as_slice.result.now c.write.new.items.items c.args.id.now c.args.k c.in_ok-place.place c.in_ok-place.unit
     c.args.value c.in_ok-cell.cell c.self.view_is refl c.as_slice.ensures.value c.in_ok-place.ensures.ok c.in_ok-cell.ensures.refused c.in_ok-cell.ensures.value
     c.in_ok-write.ensures.ok in
-    let n = risen m (items_view c.write.new.items.items) in
+    let n = risen m c.write.new.items.items in
     let here : RepresentsReplica w m.id (shown m) = subst (λ (x : Member). RepresentsReplica w x.id (shown x)) (sym c.self.view_is) stands in
     subst (λ (x : Member). ActsIn w (Make x.id c.args.id.now (next_version x) (edited_contents c.args.k c.args.value)) x.id n) c.self.view_is
     (edited_acts w m n c.args.id.now c.args.k c.args.value wrote.cells ok here c.self.invariant.rising wrote.may.room
