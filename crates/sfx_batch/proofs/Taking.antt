@@ -1,7 +1,7 @@
 -- The first items of a list, and whether there are more, found by asking for one more of them.
 use Rattle.std.proofs.Common.{◌≡◌, ℕ, zero, suc, ◌+◌, ◌-◌, ◌<◌, ◌≤◌, ◌^◌, min, if◌then◌else◌, nat_lt, List, [], ◌∷◌, length, take, slice_get, Some, arith, refl, sym, ◌∙◌, ap, subst}
 use Rattle.std.proofs.lemmas.Bool.Decides.{nat_tests}
-use Rattle.std.proofs.lemmas.List.{length-map, length-take, take-map}
+use Rattle.std.proofs.lemmas.List.{length-take}
 use Rattle.sfx_ids.specs.declared.cut.Cut.{Cut}
 use Rattle.sfx_ids.specs.declared.cut.Cut.TheVariants.{After, End}
 use Rattle.sfx_model.specs.Batch.{place_behind}
@@ -48,7 +48,7 @@ pub first_taken :
     → size < 2 ^ 64 → given ≡ take (one_more size) xs
     → (take size given) ≡ take size xs
 first_taken size given xs fits is =
-    sym (take-map size given) ∙ ap (take size) is ∙ taken_of size (one_more size) xs (omega (arith, fits))
+    ap (take size) is ∙ taken_of size (one_more size) xs (omega (arith, fits))
 
 pub end_taken :
     (size : ℕ) (given : List MemberItem) (xs : List MemberItem) (end : Cut)
@@ -56,7 +56,7 @@ pub end_taken :
     → end ≡ (if nat_lt size (length given) then place_behind End (take size given) else End)
     → end ≡ (if nat_lt size (length xs) then place_behind End (take size xs) else End)
 end_taken size given xs end fits few is ends =
-    let many : length given ≡ length (take (one_more size) xs) = sym (length-map given item_view) ∙ ap length is in
+    let many : length given ≡ length (take (one_more size) xs) = ap length is in
     let more = more_of size xs (rw many at few) in
     let taken = first_taken size given xs fits is in
     rw (many, more, taken) at ends

@@ -1,7 +1,6 @@
 -- Walks over the items by the first one from a place.
 use Rattle.std.proofs.Common.{◌≡◌, ℕ, ◌++◌, append_assoc, Bool, true, false, if◌then◌else◌, List, [], ◌∷◌, Option, Some, None, inl, inr, refl, sym, ◌∙◌, ap, subst, ◌<◌, length, arith}
 use Rattle.std.proofs.lemmas.Bool.Decides.{nat_tests}
-use Rattle.std.proofs.lemmas.List.{map-append}
 use Rattle.sfx_ids.specs.declared.cut.Cut.{Cut}
 use Rattle.sfx_ids.specs.declared.cut.Cut.TheVariants.{Start, At, After}
 use Rattle.sfx_ids.specs.declared.item_id.ItemId.{ItemId}
@@ -166,4 +165,4 @@ pub walked_on :
     → so_far ++ items_from place items ≡ items
     → (so_far ++ x ∷ []) ++ items_from (After x.id) items ≡ items
 walked_on place items so_far x rising found walked =
-    rw (map-append, append_assoc) (rw (stepped place items x rising found) at walked)
+    rw append_assoc (rw (stepped place items x rising found) at walked)

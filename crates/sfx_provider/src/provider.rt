@@ -78,7 +78,7 @@ pub trait Provider<const U: usize> {
     /// # Errors
     /// `Failed`, only where the count of faults rose, and `Memory`.
     fn next_from(&mut self, alloc: Global, from: &Cut) -> Result<Option<Item<U>>, ProviderFault>
-        ensures value { IfOk result (λ item. option_map item ≡ first_from from.now (state self.old).items) }
+        ensures value { IfOk result (λ item. item ≡ first_from from.now (state self.old).items) }
         ensures rests { Rests state kept settled came self.old self.new }
         ensures cause { HasCause blames_storage (faults self.old) (faults self.new) result };
 

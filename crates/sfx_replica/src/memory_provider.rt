@@ -120,7 +120,7 @@ impl<const U: usize> Provider<U> for MemoryProvider<U> {
 
     fn next_from(&mut self, alloc: Global, from: &Cut) -> Result<Option<Item<U>>, ProviderFault>
         ensures call { Reads self.old self.new result }
-        ensures value { IfOk result (λ item. option_map item ≡ first_from from.now self.old.member.items) }
+        ensures value { IfOk result (λ item. item ≡ first_from from.now self.old.member.items) }
     {
         self.begin()?;
         Ok(copy_of(alloc, self.replica.next_from(from))?)
