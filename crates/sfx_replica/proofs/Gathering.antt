@@ -78,36 +78,36 @@ opened xs i x is inside = rw (add-one, drop-cons xs i x inside, ← is) refl
 
 -- The next item is one, or it is passed over.
 pub next_found :
-    {U : ℕ} {A : Type 0} (view : MemberItem → A) (limit : ℕ) (known : Known) (from : Cut) (items : List MemberItem) (i : ℕ)
+    {A : Type 0} (U : ℕ) (view : MemberItem → A) (limit : ℕ) (known : Known) (from : Cut) (items : List MemberItem) (i : ℕ)
     (x : MemberItem) (found : List A)
     → x ≡ get_or items i x → i < length items
     → Gathers view limit (unseen U known from items) found (unseen U known from (drop i items))
     → is_next_unseen U known from x ≡ true → length found < limit
     → Gathers view limit (unseen U known from items) (found ++ view x ∷ []) (unseen U known from (drop (i + 1) items))
-next_found {U} view limit known from items i x found is inside so_far next room =
+next_found U view limit known from items i x found is inside so_far next room =
     let first = ap (λ (xs : List MemberItem). unseen U known from xs) (opened items i x is inside)
     ∙ unseen_first U known from x (drop (i + 1) items) next in
     gathers_on view limit (unseen U known from items) found x
     (unseen U known from (drop (i + 1) items)) (rw first at so_far) room
 
 pub next_passed :
-    {U : ℕ} {A : Type 0} (view : MemberItem → A) (limit : ℕ) (known : Known) (from : Cut) (items : List MemberItem) (i : ℕ)
+    {A : Type 0} (U : ℕ) (view : MemberItem → A) (limit : ℕ) (known : Known) (from : Cut) (items : List MemberItem) (i : ℕ)
     (x : MemberItem) (found : List A)
     → x ≡ get_or items i x → i < length items
     → Gathers view limit (unseen U known from items) found (unseen U known from (drop i items))
     → is_next_unseen U known from x ≡ false
     → Gathers view limit (unseen U known from items) found (unseen U known from (drop (i + 1) items))
-next_passed {U} view limit known from items i x found is inside so_far next =
+next_passed U view limit known from items i x found is inside so_far next =
     let first = ap (λ (xs : List MemberItem). unseen U known from xs) (opened items i x is inside)
     ∙ unseen_passed U known from x (drop (i + 1) items) next in
     rw first at so_far
 
 -- Where no item is left, they are all.
 pub gathered_end :
-    {U : ℕ} {A : Type 0} (view : MemberItem → A) (limit : ℕ) (known : Known) (from : Cut) (items : List MemberItem) (i : ℕ) (found : List A)
+    {A : Type 0} (U : ℕ) (view : MemberItem → A) (limit : ℕ) (known : Known) (from : Cut) (items : List MemberItem) (i : ℕ) (found : List A)
     → length items ≤ i
     → Gathers view limit (unseen U known from items) found (unseen U known from (drop i items))
     → found ≡ map view (take limit (unseen U known from items))
-gathered_end {U} view limit known from items i found past so_far =
+gathered_end U view limit known from items i found past so_far =
     gathered_all view limit (unseen U known from items) found
     (subst (λ (xs : List MemberItem). Gathers view limit (unseen U known from items) found (unseen U known from xs)) (drop_all i items past) so_far)

@@ -6,10 +6,8 @@ use Rattle.std.specs.List.{position_from}
 use Rattle.sfx_ids.specs.declared.item_id.ItemId.{ItemId}
 use Rattle.sfx_ids.specs.declared.version.Version.{Version}
 use Rattle.sfx_item.specs.declared.cell.Cell.{Cell}
-use Rattle.sfx_item.specs.declared.state.State.{State}
-use Rattle.sfx_item.specs.declared.state.State.TheVariants.{Live as LiveRow, Dead as Tombstone}
 use Rattle.sfx_item.specs.Name.{IsName}
-use Rattle.sfx_item.specs.Item.{state_view, Live, Dead, MemberItem}
+use Rattle.sfx_item.specs.Item.{ItemState, Live, Dead, MemberItem}
 use Rattle.sfx_model.specs.Members.{Member, state_of}
 use Rattle.sfx_model.specs.States.{cells_with, next_version, with_state}
 use Rattle.sfx_replica.specs.Items.{IsTarget}
@@ -23,40 +21,39 @@ pub edited_view : (xs : List MemberItem) (i : ItemId) (k : ℕ) (old y : MemberI
     → IsPlace xs i k → old ≡ get_or xs k old → y.id ≡ old.id → y.state ≡ Live cells
     → (set xs k y) ≡ with_state i (Live cells) xs
 edited_view xs i k old y cells place is same live =
-    let put = place.put y (same ∙ id_there xs i k old place is) in
-    rw live at put
+    place.put y (same ∙ id_there xs i k old place is) ∙ ap (λ (s : ItemState). with_state i s xs) live
 
 -- a cell put in the place of one of the unit's, and nothing put
-pub written_view : {U : ℕ} (xs : List MemberItem) (i : ItemId) (k unit : ℕ) (old : MemberItem) (row after cells : List Cell) (cell : Cell) (done : Bool)
-    → position_from (has_id i) 0 xs ≡ Some k → old ≡ get_or xs k old → old.state ≡ LiveRow row
+pub written_view : (xs : List MemberItem) (i : ItemId) (k unit : ℕ) (old : MemberItem) (row after cells : List Cell) (cell : Cell) (done : Bool)
+    → position_from (has_id i) 0 xs ≡ Some k → old ≡ get_or xs k old → old.state ≡ Live row
     → state_of xs i ≡ Some (Live cells)
     → after ≡ (if done then slice_set row unit cell else row) → done ≡ true
-    → (set xs k (record { id = old.id; state = LiveRow after })) ≡ with_state i (Live (slice_set cells unit cell)) xs
-written_view {U} xs i k unit old row after cells cell done found is state live put made =
+    → (set xs k (record { id = old.id; state = Live after })) ≡ with_state i (Live (slice_set cells unit cell)) xs
+written_view xs i k unit old row after cells cell done found is state live put made =
     let place = at_place xs xs i k (Some k) refl (sym found) refl in
     let both : Some (Live row) ≡ Some (Live cells) =
-    ap (λ (s : State U). Some (state_view s)) (sym state) ∙ (sym (state_there xs i k old place is) ∙ live) in
+    ap (λ (s : ItemState). Some s) (sym state) ∙ (sym (state_there xs i k old place is) ∙ live) in
     let rows : row ≡ cells = cc in
     let new : after ≡ slice_set cells unit cell = rw (made, rows) at put in
-    edited_view xs i k old (record { id = old.id; state = LiveRow after }) (slice_set cells unit cell) place is refl
+    edited_view xs i k old (record { id = old.id; state = Live after }) (slice_set cells unit cell) place is refl
     (ap (λ (c : List Cell). Live c) new)
 
-pub unwritten : {U : ℕ} (xs : List MemberItem) (k : ℕ) (old : MemberItem) (row after : List Cell)
-    → old ≡ get_or xs k old → old.state ≡ LiveRow row → after ≡ row
-    → set xs k (record { id = old.id; state = LiveRow after }) ≡ xs
-unwritten {U} xs k old row after is state same =
-    let back : LiveRow after ≡ old.state = ap (λ (c : List Cell). LiveRow c) same ∙ sym state in
-    ap (λ (s : State U). set xs k (record { id = old.id; state = s })) back
+pub unwritten : (xs : List MemberItem) (k : ℕ) (old : MemberItem) (row after : List Cell)
+    → old ≡ get_or xs k old → old.state ≡ Live row → after ≡ row
+    → set xs k (record { id = old.id; state = Live after }) ≡ xs
+unwritten xs k old row after is state same =
+    let back : Live after ≡ old.state = ap (λ (c : List Cell). Live c) same ∙ sym state in
+    ap (λ (s : ItemState). set xs k (record { id = old.id; state = s })) back
     ∙ (ap (λ (x : MemberItem). set xs k x) is ∙ set-get_or xs k old)
 
 -- no tombstone is live
-pub none_dead : {U : ℕ} {P : Type 0} (xs : List MemberItem) (i : ItemId) (k : ℕ) (old : MemberItem) (v : Version) (cells : List Cell)
-    → position_from (has_id i) 0 xs ≡ Some k → old ≡ get_or xs k old → old.state ≡ Tombstone v
+pub none_dead : {P : Type 0} (xs : List MemberItem) (i : ItemId) (k : ℕ) (old : MemberItem) (v : Version) (cells : List Cell)
+    → position_from (has_id i) 0 xs ≡ Some k → old ≡ get_or xs k old → old.state ≡ Dead v
     → state_of xs i ≡ Some (Live cells) → P
-none_dead {U} xs i k old v cells found is state live =
+none_dead xs i k old v cells found is state live =
     let place = at_place xs xs i k (Some k) refl (sym found) refl in
     let both : Some (Dead v) ≡ Some (Live cells) =
-    ap (λ (s : State U). Some (state_view s)) (sym state) ∙ (sym (state_there xs i k old place is) ∙ live) in
+    ap (λ (s : ItemState). Some s) (sym state) ∙ (sym (state_there xs i k old place is) ∙ live) in
     absurd (cc)
 
 -- The items are those of the replica after a value that may be written was written to a unit of a live one.
@@ -67,14 +64,14 @@ pub record IsWritten (units : ℕ) (m : Member) (i : ItemId) (k : ℕ) (value : 
   pub holds : items ≡ with_state i (Live (cells_with m cells k value)) m.items
 
 pub written :
-    {U : ℕ} (m n : Member) (xs ys after : List MemberItem) (i : ItemId) (k place unit : ℕ) (value : List ℕ) (cell : Cell)
-    → m ≡ n → xs ≡ m.items → ys ≡ xs → IsTarget ys i k place unit
+    (U : ℕ) (m n : Member) (xs ys after : List MemberItem) (i : ItemId) (k place unit : ℕ) (value : List ℕ) (cell : Cell)
+    → m ≡ n → xs ≡ m.items → ys ≡ xs → IsTarget U ys i k place unit
     → option_or (if nat_eq k 0 then name_refusal n (Some i) value else None) (full_clock n) ≡ None
     → cell ≡ record { version = next_version n; value = value }
     → ((j : ItemId) (cells : List Cell) → position_from (has_id j) 0 xs ≡ Some place → state_of xs j ≡ Some (Live cells)
     → (unit ≡ 0 → IsName cell.value) → after ≡ with_state j (Live (slice_set cells unit cell)) xs)
     → IsWritten U m i k value after
-written {U} m n xs ys after i k place unit value cell view view_items same target free made wrote =
+written U m n xs ys after i k place unit value cell view view_items same target free made wrote =
     let found : position_from (has_id i) 0 xs ≡ Some place = subst (λ (zs : List MemberItem). position_from (has_id i) 0 zs ≡ Some place) same target.found in
     let cells = target.live.0 in
     let there : state_of xs i ≡ Some (Live cells) =

@@ -17,8 +17,8 @@ abbrev pub is_next_unseen : ℕ → Known → Cut → MemberItem → Bool
 is_next_unseen units known from x = cut_le from (At x.id) && is_unseen units known x
 
 -- The item with this id is a live one at this place, and `unit` is its unit with this number.
-pub record IsTarget {U : ℕ} (items : List MemberItem) (i : ItemId) (k place unit : ℕ) : Type 0 where
+pub record IsTarget (units : ℕ) (items : List MemberItem) (i : ItemId) (k place unit : ℕ) : Type 0 where
   pub found : position_from (has_id i) 0 items ≡ Some place
   pub live : (cells : List Cell) × (state_of items i ≡ Some (Live cells))
   pub same : unit ≡ k
-  pub inside : k < U
+  pub inside : k < units

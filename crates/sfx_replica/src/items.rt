@@ -25,14 +25,15 @@ pub fn target<const U: usize>(
     k: usize,
 ) -> Result<(usize, UnitId<U>), EditFault>
     requires rising { AreRising items.now }
-    ensures ok { IfOk result (λ found. IsTarget items.now id.now k found.0 found.1) }
+    ensures ok { IfOk result (λ found. IsTarget U items.now id.now k found.0 found.1) }
     ensures err { let state = state_of items.now id.now in
         IfErr result (λ fault. (m : Member) (value : List ℕ) → state_refusal U m id.now k value state ≡ Some fault) }
 {
     let Some(place) = place_of(items, id) else {
         return Err(EditFault::NoItem);
     };
-    if let State::Dead(_) = &items[place].state {
+    let item: &Item<U> = &items[place];
+    if let State::Dead(_) = &item.state {
         return Err(EditFault::Deleted);
     }
     match UnitId::new(k) {
@@ -57,7 +58,8 @@ pub fn write<const U: usize>(
     ensures err { OnErr result (items.new.items ≡ items.old.items) }
 {
     let alloc = *items.allocator();
-    match &mut items[place].state {
+    let item: &mut Item<U> = &mut items[place];
+    match &mut item.state {
         State::Live(row) => {
             row.put(alloc, unit, cell)?;
             Ok(())

@@ -1,4 +1,4 @@
-use Rattle.std.proofs.Common.{◌≡◌, ◌∙◌, ◌+◌, ◌++◌, ◌∷◌, List, ap, drop, refl, sym}
+use Rattle.std.proofs.Common.{◌≡◌, ◌∙◌, ◌+◌, ◌++◌, ◌∷◌, [], List, ap, drop, refl, sym}
 use Rattle.std.proofs.lemmas.List.{append-nil}
 use Rattle.std.proofs.lemmas.Result.{err_from_is_err_and}
 use Rattle.std.specs.Option.{option_copied}
@@ -23,7 +23,7 @@ loop-item-preserved g c =
     elim c.if-is_in_the_way.branch [
       | then-is_in_the_way+in_ok-push w ↦
           clashing_more name except c.item-item.result left whole c.loop-item.ids.items c.if-is_in_the_way.ids.items
-          (sym c.is_in_the_way.ensures ∙ w.if-is_in_the_way.true) so_far (ap (λ ids. ids.items) w.ids-is ∙ w.in_ok-push.ensures.items)
+          (sym c.is_in_the_way.ensures ∙ w.if-is_in_the_way.true) so_far (ap (λ ids. ids.items) w.ids-is ∙ w.in_ok-push.ensures.items ∙ ap (λ (x : MemberItem). c.loop-item.ids.items ++ x.id ∷ []) c.item.view_is)
       | else-is_in_the_way w ↦
           rw w.ids-is
           (clashing_past name except c.item-item.result left whole c.loop-item.ids.items

@@ -1,6 +1,6 @@
 use Rattle.std.proofs.Common.{◌∙◌, Some, ap, arith, refl, sym}
-use Rattle.sfx_item.specs.Item.{state_view}
-use Rattle.sfx_items.proofs.ItemListLemmas.{at_place, not_there}
+use Rattle.sfx_item.specs.Item.{MemberItem, state_view}
+use Rattle.sfx_items.proofs.ItemListLemmas.{at_place, not_there, state_there}
 use Rattle.sfx_replica.proofs.Refusing.{past_from, refused_absent, refused_dead, refused_unit}
 use Rattle.sfx_replica.proofs.items.target.Goals as goal
 
@@ -17,7 +17,8 @@ pub returns-in-Dead-clause-err : goal.returns-in-Dead-clause-err
 returns-in-Dead-clause-err g c m value =
     let place = at_place c.args.items.now c.args.items.now c.args.id.now c.in-Some.place c.place_of.result refl c.place_of.ensures c.in-Some.is in
     refused_dead g.row.U m c.args.items.now c.args.id.now c.args.k value c.in-Dead.field-0
-    (place.state c.index-items-place.result ∙ ap (λ s. Some (state_view s)) c.in-Dead.is)
+    (state_there c.args.items.now c.args.id.now c.in-Some.place c.index-items-place.result place c.index-items-place.is
+    ∙ sym (ap (λ (x : MemberItem). Some x.state) c.item.view_is) ∙ ap (λ s. Some (state_view s)) c.in-Dead.is)
 
 pub offset_bounds-items-place : goal.offset_bounds-items-place
 offset_bounds-items-place g c =
@@ -29,7 +30,11 @@ returns-in-Some-new-clause-ok g c =
     let place = at_place c.args.items.now c.args.items.now c.args.id.now c.in-Some.place c.place_of.result refl c.place_of.ensures c.in-Some.is in
     record {
       found = sym c.place_of.ensures ∙ c.in-Some.is;
-      live = (c.in_default-state.field-0, place.state c.index-items-place.result ∙ ap (λ s. Some (state_view s)) c.in_default-state.is);
+      live = (
+        c.in_default-state.field-0,
+        state_there c.args.items.now c.args.id.now c.in-Some.place c.index-items-place.result place c.index-items-place.is
+            ∙ sym (ap (λ (x : MemberItem). Some x.state) c.item.view_is) ∙ ap (λ s. Some (state_view s)) c.in_default-state.is,
+      );
       same = c.in-Some-new.ensures.value;
       inside = c.in-Some-new.ensures.valid.0 refl;
     }
@@ -38,5 +43,6 @@ pub returns-in-None-clause-err : goal.returns-in-None-clause-err
 returns-in-None-clause-err g c m value =
     let place = at_place c.args.items.now c.args.items.now c.args.id.now c.in-Some.place c.place_of.result refl c.place_of.ensures c.in-Some.is in
     refused_unit g.row.U m c.args.items.now c.args.id.now c.args.k value c.in_default-state.field-0
-    (place.state c.index-items-place.result ∙ ap (λ s. Some (state_view s)) c.in_default-state.is)
+    (state_there c.args.items.now c.args.id.now c.in-Some.place c.index-items-place.result place c.index-items-place.is
+    ∙ sym (ap (λ (x : MemberItem). Some x.state) c.item.view_is) ∙ ap (λ s. Some (state_view s)) c.in_default-state.is)
     (past_from c.args.k g.row.U c.in-None.ensures.valid.1)

@@ -1,5 +1,6 @@
-use Rattle.std.proofs.Common.{◌≡◌, ◌∙◌, ◌<◌, ◌≤◌, sym, true, false, drop, length, arith}
+use Rattle.std.proofs.Common.{◌≡◌, ◌∙◌, ◌<◌, ◌≤◌, ap, sym, true, false, drop, length, arith}
 use Rattle.std.proofs.lemmas.Result.{err_from_is_err_and}
+use Rattle.sfx_item.specs.Item.{MemberItem}
 use Rattle.sfx_model.specs.Readings.{unseen}
 use Rattle.sfx_replica.specs.Items.{is_next_unseen}
 use Rattle.sfx_replica.proofs.Gathering.{gathered_end, gathered_full, gathers_none, next_found, next_passed}
@@ -11,8 +12,8 @@ loop-item-preserved g c =
     let less = c.if-len-limit.false in
     let room : length c.loop-item.ids.items < c.args.limit = omega (arith, len, less) in
     let next : is_next_unseen g.row.U c.args.to.now c.args.from.now c.item-item.result ≡ true = sym c.is_next_unseen.ensures ∙ c.if-not-is_next_unseen.false in
-    rw c.in_ok-push.ensures.items
-    (next_found (λ x. x.id) c.args.limit c.args.to.now c.args.from.now c.args.items.now c.loop-item.item-index c.item-item.result c.loop-item.ids.items
+    rw (c.in_ok-push.ensures.items, ap (λ (x : MemberItem). x.id) c.item.view_is)
+    (next_found g.row.U (λ x. x.id) c.args.limit c.args.to.now c.args.from.now c.args.items.now c.loop-item.item-index c.item-item.result c.loop-item.ids.items
     c.item-item.is c.loop-item-test.true c.loop-item.invariant next room)
 
 pub loop-item-init : goal.loop-item-init
@@ -22,7 +23,7 @@ loop-item-init g c =
 pub loop-item-preserved-then-not-is_next_unseen : goal.loop-item-preserved-then-not-is_next_unseen
 loop-item-preserved-then-not-is_next_unseen g c =
     let next : is_next_unseen g.row.U c.args.to.now c.args.from.now c.item-item.result ≡ false = sym c.is_next_unseen.ensures ∙ c.if-not-is_next_unseen.true in
-    next_passed (λ x. x.id) c.args.limit c.args.to.now c.args.from.now c.args.items.now c.loop-item.item-index c.item-item.result c.loop-item.ids.items
+    next_passed g.row.U (λ x. x.id) c.args.limit c.args.to.now c.args.from.now c.args.items.now c.loop-item.item-index c.item-item.result c.loop-item.ids.items
     c.item-item.is c.loop-item-test.true c.loop-item.invariant next
 
 pub returns-then-len-limit : goal.returns-then-len-limit
@@ -40,5 +41,5 @@ returns-in_err-push g c =
 
 pub returns : goal.returns
 returns g c =
-    gathered_end (λ x. x.id) c.args.limit c.args.to.now c.args.from.now c.args.items.now c.loop-item.item-index c.loop-item.ids.items
+    gathered_end g.row.U (λ x. x.id) c.args.limit c.args.to.now c.args.from.now c.args.items.now c.loop-item.item-index c.loop-item.ids.items
     c.loop-item-test.false c.loop-item.invariant

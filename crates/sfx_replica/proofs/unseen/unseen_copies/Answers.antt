@@ -1,5 +1,4 @@
 use Rattle.std.proofs.Common.{◌≡◌, ◌∙◌, ◌<◌, sym, true, false, length, arith}
-use Rattle.std.proofs.lemmas.List.{length-map, map-append}
 use Rattle.std.proofs.lemmas.Result.{err_from_is_err_and}
 use Rattle.sfx_model.specs.Readings.{unseen}
 use Rattle.sfx_replica.specs.Items.{is_next_unseen}
@@ -11,11 +10,10 @@ loop-item-preserved g c =
     let copies = c.loop-item.copies.items in
     let len = c.len.ensures in
     let less = c.if-len-limit.false in
-    let same = length-map copies ({U = g.row.U}) in
-    let room : length copies < c.args.limit = omega (arith, len, less, same) in
+    let room : length copies < c.args.limit = omega (arith, len, less) in
     let next : is_next_unseen g.row.U c.args.to.now c.args.from.now c.item-item.result ≡ true = sym c.is_next_unseen.ensures ∙ c.if-not-is_next_unseen.false in
-    rw (c.in_ok-push.ensures.items, c.in_ok-copy.ensures, map-append)
-    (next_found (λ x. x) c.args.limit c.args.to.now c.args.from.now c.args.items.now c.loop-item.item-index c.item-item.result copies
+    rw (c.in_ok-push.ensures.items, c.in_ok-copy.ensures)
+    (next_found g.row.U (λ x. x) c.args.limit c.args.to.now c.args.from.now c.args.items.now c.loop-item.item-index c.item-item.result copies
     c.item-item.is c.loop-item-test.true c.loop-item.invariant next room)
 
 pub loop-item-init : goal.loop-item-init
@@ -25,7 +23,7 @@ loop-item-init g c =
 pub loop-item-preserved-then-not-is_next_unseen : goal.loop-item-preserved-then-not-is_next_unseen
 loop-item-preserved-then-not-is_next_unseen g c =
     let next : is_next_unseen g.row.U c.args.to.now c.args.from.now c.item-item.result ≡ false = sym c.is_next_unseen.ensures ∙ c.if-not-is_next_unseen.true in
-    next_passed (λ x. x) c.args.limit c.args.to.now c.args.from.now c.args.items.now c.loop-item.item-index c.item-item.result c.loop-item.copies.items
+    next_passed g.row.U (λ x. x) c.args.limit c.args.to.now c.args.from.now c.args.items.now c.loop-item.item-index c.item-item.result c.loop-item.copies.items
     c.item-item.is c.loop-item-test.true c.loop-item.invariant next
 
 pub returns-in_err-copy : goal.returns-in_err-copy

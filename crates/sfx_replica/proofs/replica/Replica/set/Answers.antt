@@ -118,7 +118,7 @@ pub invariant_of-self-2 : goal.invariant_of-self-2
 invariant_of-self-2 g c =
     let m = member_view c.self.inside.id c.self.inside.clock c.self.inside.knowledge c.self.inside.forgotten c.self.inside.items.items in
     let wrote : IsWritten g.row.U m c.args.id.now c.args.k c.args.value c.write.new.items.items =
-    written m c.args.self.now c.self.inside.items.items c.as_slice.result.now c.write.new.items.items c.args.id.now c.args.k c.in_ok-place.place c.in_ok-place.unit
+    written g.row.U m c.args.self.now c.self.inside.items.items c.as_slice.result.now c.write.new.items.items c.args.id.now c.args.k c.in_ok-place.place c.in_ok-place.unit
     c.args.value c.in_ok-cell.cell c.self.view_is refl c.as_slice.ensures.value c.in_ok-place.ensures.ok c.in_ok-cell.ensures.refused c.in_ok-cell.ensures.value
     c.in_ok-write.ensures.ok in
     rw wrote.holds (edited_consistent g.row.U m c.args.id.now wrote.cells c.args.k c.args.value c.self.invariant wrote.live wrote.may)
@@ -139,7 +139,7 @@ pub returns-clause-after : goal.returns-clause-after
 returns-clause-after g c =
     let m = member_view c.self.inside.id c.self.inside.clock c.self.inside.knowledge c.self.inside.forgotten c.self.inside.items.items in
     let wrote : IsWritten g.row.U m c.args.id.now c.args.k c.args.value c.write.new.items.items =
-    written m c.args.self.now c.self.inside.items.items c.as_slice.result.now c.write.new.items.items c.args.id.now c.args.k c.in_ok-place.place c.in_ok-place.unit
+    written g.row.U m c.args.self.now c.self.inside.items.items c.as_slice.result.now c.write.new.items.items c.args.id.now c.args.k c.in_ok-place.place c.in_ok-place.unit
     c.args.value c.in_ok-cell.cell c.self.view_is refl c.as_slice.ensures.value c.in_ok-place.ensures.ok c.in_ok-cell.ensures.refused c.in_ok-cell.ensures.value
     c.in_ok-write.ensures.ok in
     let now : edited m c.args.id.now c.args.k c.args.value ≡ risen m (with_state c.args.id.now (Live (cells_with m wrote.cells c.args.k c.args.value)) m.items) =
@@ -154,7 +154,7 @@ pub returns-clause-acts : goal.returns-clause-acts
 returns-clause-acts g c w ok units stands =
     let m = member_view c.self.inside.id c.self.inside.clock c.self.inside.knowledge c.self.inside.forgotten c.self.inside.items.items in
     let wrote : IsWritten g.row.U m c.args.id.now c.args.k c.args.value c.write.new.items.items =
-    written m c.args.self.now c.self.inside.items.items c.as_slice.result.now c.write.new.items.items c.args.id.now c.args.k c.in_ok-place.place c.in_ok-place.unit
+    written g.row.U m c.args.self.now c.self.inside.items.items c.as_slice.result.now c.write.new.items.items c.args.id.now c.args.k c.in_ok-place.place c.in_ok-place.unit
     c.args.value c.in_ok-cell.cell c.self.view_is refl c.as_slice.ensures.value c.in_ok-place.ensures.ok c.in_ok-cell.ensures.refused c.in_ok-cell.ensures.value
     c.in_ok-write.ensures.ok in
     let n = risen m c.write.new.items.items in
