@@ -1,6 +1,6 @@
 -- Items that are looked for one after another, up to a limit.
-use Rattle.std.proofs.Common.{◌≡◌, ℕ, suc, ◌+◌, ◌-◌, ◌<◌, ◌≤◌, Bool, true, false, ◌&&◌, List, [], ◌∷◌, ◌++◌, length, take, drop, get_or, map, refl, sym, ◌∙◌, ap, append_assoc, add-one, subst, arith}
-use Rattle.std.proofs.Math.Seq.{drop-cons, take-nil}
+use Rattle.std.proofs.Common.{◌≡◌, ℕ, suc, ◌+◌, ◌-◌, ◌<◌, ◌≤◌, Bool, true, false, ◌&&◌, List, [], ◌∷◌, ◌++◌, length, take, drop, get_or, map, refl, sym, ◌∙◌, ap, append_assoc, subst, arith}
+use Rattle.std.proofs.Math.Seq.{take-nil}
 use Rattle.std.proofs.lemmas.List.{append-nil, drop_all, length-append}
 use Rattle.sfx_ids.specs.declared.cut.Cut.{Cut}
 use Rattle.sfx_ids.specs.declared.cut.Cut.TheVariants.{At}
@@ -8,6 +8,7 @@ use Rattle.sfx_ids.specs.Cut.{cut_le}
 use Rattle.sfx_knowledge.specs.Knowledge.{Known}
 use Rattle.sfx_item.specs.Item.{MemberItem}
 use Rattle.sfx_model.specs.Readings.{is_unseen, unseen}
+use Rattle.sfx_provider.proofs.Courses.{opened}
 use Rattle.sfx_replica.specs.Items.{is_next_unseen}
 
 -- What was found so far, and what those that are left give up to the limit, are all up to the limit.
@@ -71,10 +72,6 @@ pub gathered_all :
     → Gathers view limit whole found [] → found ≡ map view (take limit whole)
 gathered_all {A} view limit whole found so_far =
     sym (so_far.all ∙ ap (λ (xs : List MemberItem). found ++ map view xs) (take-nil (limit - length found)) ∙ append-nil found)
-
--- A list from one of its elements on.
-pub opened : {A : Type 0} (xs : List A) (i : ℕ) (x : A) → x ≡ get_or xs i x → i < length xs → drop i xs ≡ x ∷ drop (i + 1) xs
-opened xs i x is inside = rw (add-one, drop-cons xs i x inside, ← is) refl
 
 -- The next item is one, or it is passed over.
 pub next_found :

@@ -4,7 +4,7 @@ use Rattle.std.proofs.lemmas.List.{drop_all}
 use Rattle.sfx_ids.specs.declared.item_id.ItemId.{ItemId}
 use Rattle.sfx_item.specs.Item.{MemberItem}
 use Rattle.sfx_model.specs.Readings.{clashing_with, is_in_the_way}
-use Rattle.sfx_replica.proofs.Gathering.{opened}
+use Rattle.sfx_provider.proofs.Courses.{opened}
 
 -- What a function of the items that are left gives at the next one, and at the end.
 pub next_gives :
