@@ -6,7 +6,7 @@ use Rattle.std.specs.Option.{option_or}
 use Rattle.sfx_ids.specs.declared.item_id.ItemId.{ItemId}
 use Rattle.sfx_item.specs.Clash.{Clash}
 use Rattle.sfx_item.specs.Decided.{is_clash}
-use Rattle.sfx_item.proofs.Decisions.{clash_decided}
+use Rattle.sfx_item.proofs.Decisions.{clash_decided, other_way}
 use Rattle.sfx_model.specs.Consistent.{AreApart, live_name}
 use Rattle.sfx_model.specs.Events.{same_item}
 use Rattle.sfx_item.specs.Item.{ItemState, MemberItem}
@@ -78,11 +78,6 @@ none_clashes name i items j y b none at other named clashes =
     let found : is_clashing name y ≡ true = rw named clashing in
     true≢false (sym (rw (apart, found) refl) ∙ free)
 
-turned : (a b : List ℕ) → Clash a b → Clash b a
-turned a b (inl same) = inl (sym same)
-turned a b (inr (inl below)) = inr (inr below)
-turned a b (inr (inr above)) = inr (inl above)
-
 -- Live names do not clash with one more item whose name is free.
 pub put_apart :
     (x : MemberItem) (items : List MemberItem)
@@ -107,7 +102,7 @@ put_apart x items apart free p q s t a b differ at_p at_q named_p named_q clashe
     by_ids true e false f =
         none_clashes a x.id items q t b (free a (ap live_name (new p s e at_p) ∙ named_p)) (old q t f at_q) (ids_differ x.id q f) named_q clashes
     by_ids false e true f =
-        none_clashes b x.id items p s a (free b (ap live_name (new q t f at_q) ∙ named_q)) (old p s e at_p) (ids_differ x.id p e) named_p (turned a b clashes)
+        none_clashes b x.id items p s a (free b (ap live_name (new q t f at_q) ∙ named_q)) (old p s e at_p) (ids_differ x.id p e) named_p (other_way a b clashes)
     by_ids false e false f = apart p q s t a b differ (old p s e at_p) (old q t f at_q) named_p named_q clashes
 
 -- ---- the name among those that wait and those of the provider

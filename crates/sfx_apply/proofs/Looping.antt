@@ -56,8 +56,8 @@ seen_get (y ∷ ys) zero x = refl
 seen_get (y ∷ ys) (suc i) x = seen_get ys i x
 
 -- The turn at an index: its change was sent, and behind it are the others.
-pub record TurnAt {U : ℕ} (b : Batch) (refs : List (Bor MemberItem)) (i : ℕ) (x : Bor MemberItem) : Type 0 where
-  pub sent : IsSent U b x.now.id x.now.state
+pub record TurnAt (units : ℕ) (b : Batch) (refs : List (Bor MemberItem)) (i : ℕ) (x : Bor MemberItem) : Type 0 where
+  pub sent : IsSent units b x.now.id x.now.state
   pub opened : drop i (seen_views refs) ≡ x.now ∷ drop (i + 1) (seen_views refs)
   pub more : nat_lt (i + 1) (length refs) ≡ is_more (map Change (drop (i + 1) (seen_views refs)))
 
@@ -79,7 +79,7 @@ more_left xs i = by_test (nat_lt i (length xs)) refl
 pub turn_at :
     {U : ℕ} (b : Batch) (refs : List (Bor MemberItem)) (i : ℕ) (x : Bor MemberItem)
     → IsBatch U b → seen_views refs ≡ in_turn b.changes → x ≡ get_or refs i x → i < length refs
-    → TurnAt b refs i x
+    → TurnAt U b refs i x
 turn_at {U} b refs i x batch order is inside =
     let long : length (seen_views refs) ≡ length refs = length-map refs (λ y. y.now) in
     let at : x.now ≡ get_or (seen_views refs) i x.now = ap (λ (y : Bor MemberItem). y.now) is ∙ sym (seen_get refs i x) in

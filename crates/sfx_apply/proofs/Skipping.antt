@@ -52,7 +52,7 @@ pub at_turn :
     → Stands Came U b rules group out m w (drop i (seen_views refs))
     → AtTurn Came U b rules group out m w x.now (drop (i + 1) (seen_views refs)) (nat_lt (i + 1) (length refs))
 at_turn {U} {Came} {group} {out} {m} {w} b rules refs i x batch order is inside skip normal good stands =
-    let turn : TurnAt b refs i x = turn_at b refs i x batch order is inside in record {
+    let turn : TurnAt U b refs i x = turn_at b refs i x batch order is inside in record {
       stands = subst (λ (xs : List MemberItem). Stands Came U b rules group out m w xs) turn.opened stands;
       good = good;
       lays = skipped_lays U b rules x.now w m good stands.waits stands.no_more batch turn.sent skip normal;
