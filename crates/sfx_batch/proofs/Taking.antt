@@ -1,5 +1,5 @@
 -- The first items of a list, and whether there are more, found by asking for one more of them.
-use Rattle.std.proofs.Common.{◌≡◌, ℕ, zero, suc, ◌+◌, ◌-◌, ◌<◌, ◌≤◌, ◌^◌, min, if◌then◌else◌, nat_lt, List, [], ◌∷◌, length, take, slice_get, Some, arith, refl, sym, ◌∙◌, ap, subst}
+use Rattle.std.proofs.Common.{◌≡◌, ℕ, zero, suc, ◌+◌, ◌-◌, ◌<◌, ◌≤◌, ◌^◌, min, if◌then◌else◌, nat_lt, List, [], ◌∷◌, length, take, slice_get, Some, arith, refl, ◌∙◌, ap, subst}
 use Rattle.std.proofs.lemmas.Bool.Decides.{nat_tests}
 use Rattle.std.proofs.lemmas.List.{length-take}
 use Rattle.sfx_ids.specs.declared.cut.Cut.{Cut}

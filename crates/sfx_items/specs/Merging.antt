@@ -1,5 +1,5 @@
 -- The merge of two lists of items, item by item.
-use Rattle.std.specs.Prelude.{◌≡◌, ℕ, List, [], ◌∷◌, Option, MatchOption}
+use Rattle.std.specs.Prelude.{◌≡◌, List, [], ◌∷◌, Option, MatchOption}
 use Rattle.sfx_item.specs.Item.{MemberItem}
 
 -- The item is the first of the whole list, with this rest; where there is none, the whole is empty.

@@ -1,16 +1,15 @@
 -- The commit of a state's head, with items put or dropped.
-use Rattle.std.proofs.Common.{◌≡◌, ◌≢◌, ℕ, ◌<◌, ◌≤◌, Bool, true, false, if◌then◌else◌, nat_eq, List, [], ◌∷◌, Option, Some, None, inl, inr, refl, sym, ◌∙◌, ap, subst, arith}
+use Rattle.std.proofs.Common.{◌≡◌, ℕ, ◌<◌, Bool, true, false, if◌then◌else◌, nat_eq, List, [], ◌∷◌, Some, None, inl, inr, refl, sym, ◌∙◌, ap, subst, arith}
 use Rattle.std.specs.Prelude.{IsSome}
 use Rattle.std.proofs.lemmas.Bool.{eq-eqb, eqb-true}
 use Rattle.sfx_ids.specs.declared.cut.Cut.{Cut}
 use Rattle.sfx_ids.specs.declared.item_id.ItemId.{ItemId}
-use Rattle.sfx_item.specs.Clash.{Clash}
 use Rattle.sfx_segments.specs.Segments.{IsPlace}
-use Rattle.sfx_knowledge.specs.Knowledge.{HasTicks, IsKnowledge, Known, laid_over, tick_at}
+use Rattle.sfx_knowledge.specs.Knowledge.{HasTicks, Known, laid_over, tick_at}
 use Rattle.sfx_knowledge.specs.Forms.{with_own}
 use Rattle.sfx_knowledge.proofs.Known.{one_knowledge}
 use Rattle.sfx_knowledge.proofs.Making.{IsKnowledge-with_own, ticks-with_own}
-use Rattle.sfx_model.specs.Consistent.{AreApart, IsConsistent, live_name}
+use Rattle.sfx_model.specs.Consistent.{AreApart, IsConsistent}
 use Rattle.sfx_model.specs.Events.{same_item}
 use Rattle.sfx_item.specs.Item.{ItemState, MemberItem}
 use Rattle.sfx_model.specs.Members.{Member, AreIdsRising, AreRising, state_of}

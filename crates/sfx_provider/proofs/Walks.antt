@@ -1,5 +1,5 @@
 -- Walks over the items by the first one from a place.
-use Rattle.std.proofs.Common.{◌≡◌, ℕ, ◌++◌, append_assoc, Bool, true, false, if◌then◌else◌, List, [], ◌∷◌, Option, Some, None, inl, inr, refl, sym, ◌∙◌, ap, subst, ◌<◌, length, arith}
+use Rattle.std.proofs.Common.{◌≡◌, ◌++◌, append_assoc, Bool, true, false, if◌then◌else◌, List, [], ◌∷◌, Option, Some, None, inl, inr, refl, sym, ◌∙◌, ap, subst, ◌<◌, length, arith}
 use Rattle.std.proofs.lemmas.Bool.Decides.{nat_tests}
 use Rattle.sfx_ids.specs.declared.cut.Cut.{Cut}
 use Rattle.sfx_ids.specs.declared.cut.Cut.TheVariants.{Start, At, After}

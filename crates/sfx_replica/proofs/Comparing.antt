@@ -1,5 +1,5 @@
 -- The live items of two lists, compared from the front.
-use Rattle.std.proofs.Common.{◌≡◌, ◌↔◌, ℕ, List}
+use Rattle.std.proofs.Common.{◌≡◌, ◌↔◌, List}
 use Rattle.sfx_item.specs.Item.{MemberItem}
 use Rattle.sfx_model.specs.Headline.{live_items}
 use Rattle.sfx_replica.specs.Live.{BeginsLive}

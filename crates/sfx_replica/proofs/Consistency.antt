@@ -40,7 +40,7 @@ use Rattle.sfx_provider.specs.Fits.{Fits}
 use Rattle.sfx_provider.proofs.Commits.{IsStored, commits_consistent}
 use Rattle.sfx_replica.specs.Edits.{new_member, risen, created}
 use Rattle.sfx_replica.specs.declared.edit_fault.EditFault.{EditFault}
-use Rattle.sfx_replica.specs.declared.edit_fault.EditFault.TheVariants.{BadUnit, ClockFull, Memory}
+use Rattle.sfx_replica.specs.declared.edit_fault.EditFault.TheVariants.{BadUnit, ClockFull}
 use Rattle.sfx_provider.specs.Answer.{When}
 use Rattle.sfx_provider.proofs.Causes.{when_then}
 use Rattle.sfx_replica.specs.Refusals.{bad_name, clash, full_clock, name_refusal, first_name_refusal, create_refusal, is_refusal, write_refusal}

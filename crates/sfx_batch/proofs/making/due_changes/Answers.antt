@@ -1,4 +1,4 @@
-use Rattle.std.proofs.Common.{◌∙◌, ap, arith}
+use Rattle.std.proofs.Common.{◌∙◌, arith}
 use Rattle.sfx_batch.proofs.Taking.{end_taken, first_taken}
 use Rattle.sfx_batch.proofs.making.due_changes.Goals as goal
 use Rattle.sfx_model.specs.Readings.{unseen}

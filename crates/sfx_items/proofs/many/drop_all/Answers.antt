@@ -1,4 +1,4 @@
-use Rattle.std.proofs.Common.{◌∙◌, ap, rules}
+use Rattle.std.proofs.Common.{◌∙◌, rules}
 use Rattle.std.proofs.lemmas.Fn.{filter_same}
 use Rattle.sfx_items.proofs.ItemListLemmas.{drops_stay, stays}
 use Rattle.sfx_items.proofs.many.drop_all.Goals as goal
