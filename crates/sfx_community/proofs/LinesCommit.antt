@@ -17,7 +17,7 @@ use Rattle.sfx_script.specs.declared.line.Line.{Line}
 use Rattle.sfx_script.specs.declared.line.Line.TheVariants as lines
 use Rattle.sfx_script.specs.declared.options.Options.{Options}
 use Rattle.sfx_community.specs.State.{KeptMember, State, become, has_id, has_name, member_of, members_with, state_with}
-use Rattle.sfx_community.specs.Turn.{Turn, built_rules, create_at, create_by, deeds_under, equal_at, first_then, is_built, is_unit_count, knows_at, last_or, refused, replica_turn, session_at, session_under, set_at, set_by, show_at, sync_by, sync_turn, synced, turn, turn_by, turns, units_turn}
+use Rattle.sfx_community.specs.Turn.{Turn, built_rules, create_at, create_by, equal_at, first_then, is_built, is_unit_count, knows_at, last_or, replica_turn, session_at, session_under, set_at, set_by, show_at, sync_by, sync_turn, turn, turn_by, turns, units_turn}
 use Rattle.sfx_community.proofs.Commits.{last_or-append, last_or-map, session_commits}
 use Rattle.sfx_community.proofs.Communities.{found_named}
 

@@ -14,7 +14,7 @@ use Rattle.sfx_reply.specs.Report.{report_text}
 use Rattle.sfx_reply.specs.declared.reason.Reason.TheVariants.{Session}
 use Rattle.sfx_reply.specs.declared.reply.Reply.{Reply}
 use Rattle.sfx_reply.specs.declared.reply.Reply.TheVariants.{Refused, Synced}
-use Rattle.sfx_community.specs.State.{KeptData, KeptMember, State, become, kept_as, member_of, members_with, state_among}
+use Rattle.sfx_community.specs.State.{KeptData, KeptMember, kept_as, member_of, members_with, state_among}
 use Rattle.sfx_community.specs.Turn.{Turn, built_rules, refused, session_turn, session_under, sync_by}
 
 -- both replicas are there

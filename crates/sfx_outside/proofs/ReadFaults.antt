@@ -1,5 +1,5 @@
 -- The faults of reading to the end, told apart.
-use Rattle.std.proofs.Common.{◌≡◌, Result, Err, IsErrOf, ◌∙◌, sym, ap}
+use Rattle.std.proofs.Common.{◌≡◌, Err, IsErrOf, ◌∙◌}
 use Rattle.sfx_outside.specs.declared.read_fault.ReadFault.{ReadFault}
 use Rattle.sfx_outside.specs.declared.read_fault.ReadFault.TheVariants.{Failed, TooLong, Memory}
 

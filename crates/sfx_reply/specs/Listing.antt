@@ -11,7 +11,7 @@ use Rattle.sfx_knowledge.specs.Forgotten.{fvec}
 use Rattle.sfx_knowledge.specs.Forms.{same_clocks}
 use Rattle.sfx_model.specs.Knowing.{laid_known}
 use Rattle.sfx_item.specs.Item.{ItemState, Live, Dead, MemberItem}
-use Rattle.sfx_model.specs.Members.{Member, NamedMember}
+use Rattle.sfx_model.specs.Members.{NamedMember}
 use Rattle.sfx_script.specs.Printed.{value_text, vector_text}
 
 -- The vector of a unit that differs from unit 0.

@@ -1,6 +1,5 @@
-use Rattle.std.proofs.Common.{◌≡◌, None, Some, ap, ◌∙◌, subst, sym}
+use Rattle.std.proofs.Common.{◌≡◌, None, Some, ap, ◌∙◌}
 use Rattle.std.proofs.lemmas.Result.{err_from_is_err_and}
-use Rattle.std.specs.Result.{IfErr}
 use Rattle.sfx_provider.specs.Answer.{When}
 use Rattle.sfx_session.specs.Fault.{is_refusal}
 use Rattle.sfx_session.specs.Refusals.{refusal_of}

@@ -1,11 +1,11 @@
-use Rattle.std.proofs.Common.{◌≡◌, [], None, ap, inl, sym, refl, subst, length, ◌<◌, arith, le_trans, ◌∙◌, rules as rules_list}
+use Rattle.std.proofs.Common.{◌≡◌, [], None, ap, inl, sym, refl, subst, length, ◌<◌, le_trans, ◌∙◌, rules as rules_list}
 use Rattle.std.proofs.lemmas.Result.{err_from_is_err_and}
 use Rattle.sfx_ids.specs.declared.cut.Cut.{Cut}
 use Rattle.sfx_model.specs.Readings.{items_from}
 use Rattle.sfx_model.specs.Members.{Member}
 use Rattle.sfx_model.specs.Knowing.{ahead_of, laid_known}
 use Rattle.sfx_model.specs.Moments.{committed, stops}
-use Rattle.sfx_model.specs.Session.{SessionResult, applied_batch, reduced, session_of}
+use Rattle.sfx_model.specs.Session.{applied_batch, reduced, session_of}
 use Rattle.sfx_model.proofs.Bounds.{less}
 use Rattle.sfx_provider.proofs.Causes.{cause_later}
 use Rattle.sfx_provider.proofs.Exits.{if_ok_never, ok_never, on_err_always, on_fault_always, on_fault_never}
