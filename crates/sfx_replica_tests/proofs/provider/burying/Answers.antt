@@ -1,5 +1,4 @@
 use Rattle.std.proofs.Common.{◌≡◌, ◌∙◌, ap, refl, subst}
-use Rattle.std.proofs.lemmas.List.{map-append}
 use Rattle.std.specs.Prelude.{IfOk}
 use Rattle.sfx_provider.specs.Commit.{CommitData, commit_of}
 use Rattle.sfx_provider.specs.Head.{HeadData, head_of}
@@ -13,4 +12,4 @@ returns w c =
     let is : commit ≡ commit_of (head_of 2 c.args.replica.now) = c.commit.view_is ∙ c.into_commit-commit.ensures ∙ ap commit_of head in
     burying_fits_by 2 c.args.replica.now c.args.id.now c.in-Some.field-0.now.state commit c.push.new.self.items
     c.id.ensures.consistent c.in-Some.ensures.state is
-    (rw (c.push.ensures.items, c.expect-2.ensures, map-append, c.creation.ensures) refl)
+    (rw (c.push.ensures.items, c.expect-2.ensures, c.creation.ensures) refl)
