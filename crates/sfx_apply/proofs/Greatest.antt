@@ -1,51 +1,14 @@
 -- The greatest tick that is known of a replica.
-use Rattle.std.proofs.Common.{◌≡◌, ℕ, ◌<◌, ◌≤◌, max, Bool, true, false, if◌then◌else◌, nat_lt, arith, refl, sym, ap, subst, ◌∙◌, [], ◌∷◌, Some, None}
-use Rattle.std.specs.List.{flat_map}
+use Rattle.std.proofs.Common.{◌≡◌, ℕ, ◌<◌, ◌≤◌, Bool, true, false, if◌then◌else◌, nat_lt, arith, refl, sym, ap, subst, ◌∙◌, [], ◌∷◌, Some, None}
 use Rattle.std.proofs.lemmas.Bool.Decides.{nat_tests}
-use Rattle.sfx_ids.specs.declared.cut.Cut.{Cut}
-use Rattle.sfx_ids.specs.declared.cut.Cut.TheVariants.{Start}
-use Rattle.sfx_ids.proofs.CutOrder.{start-le}
-use Rattle.sfx_vector.specs.Clocks.{Clocks, AreClocks, tick_of}
-use Rattle.sfx_segments.specs.Segments.{IsPlace}
-use Rattle.sfx_knowledge.specs.Knowledge.{Known, IsKnowledge, IsMost}
-use Rattle.sfx_knowledge.specs.Forgotten.{Forgets, AreForgets, fvec}
-use Rattle.sfx_knowledge.proofs.Forgets.{same_forgets}
+use Rattle.sfx_knowledge.specs.Knowledge.{Known}
+use Rattle.sfx_knowledge.specs.Forgotten.{Forgets}
 use Rattle.sfx_model.specs.Batch.{Batch, IsBatch}
-use Rattle.sfx_model.specs.Knowing.{ahead_of, most_in, most_known, row_clocks}
+use Rattle.sfx_model.specs.Knowing.{ahead_of, most_known}
 use Rattle.sfx_model.specs.Members.{Member}
-use Rattle.sfx_model.proofs.Most.{known_bound, known_within}
+use Rattle.sfx_model.proofs.Most.{known_within}
 use Rattle.sfx_provider.specs.Head.{HeadData, head_of}
 use Rattle.sfx_apply.specs.Work.{KnowsNoMore}
-
-known_met : (units r n : ℕ) (known : Known) → IsKnowledge units known → IsMost units known r n
-    → n ≤ most_in r (flat_map (λ p. row_clocks p.1) known)
-known_met units r n known form most =
-    subst (λ (t : ℕ). t ≤ most_in r (flat_map (λ p. row_clocks p.1) known)) most.met.4
-    (known_within r most.met.1 known most.met.0 form.segments most.met.2)
-
--- forgotten deletions with one vector everywhere
-forgets_are : (forgotten : Forgets) (v : Clocks) → AreForgets forgotten → ((place : Cut) → IsPlace place → fvec forgotten place ≡ v)
-    → forgotten ≡ (Start, v) ∷ []
-forgets_are forgotten v form everywhere =
-    same_forgets forgotten ((Start, v) ∷ []) form
-    (record {
-      segments = (refl, tt);
-      clocks = λ place is. subst AreClocks (everywhere place is ∙ sym (one_segment place)) (form.clocks place is);
-    })
-    (λ place is. everywhere place is ∙ sym (one_segment place))
-  where
-    one_segment : (place : Cut) → fvec ((Start, v) ∷ []) place ≡ v
-    one_segment place = rw (start-le place) refl
-
-pub most_known_is : (units r known_most : ℕ) (known : Known) (forgotten : Forgets) (v : Clocks) → 1 ≤ units
-    → IsKnowledge units known → IsMost units known r known_most
-    → AreForgets forgotten → ((place : Cut) → IsPlace place → fvec forgotten place ≡ v)
-    → max known_most (tick_of v r) ≡ most_known r known forgotten
-most_known_is units r known_most known forgotten v some form most forgot everywhere =
-    let low = known_bound units r known_most known some form most.bound in
-    let high = known_met units r known_most known form most in
-    let is : most_in r (flat_map (λ p. row_clocks p.1) known) ≡ known_most = omega (arith, low, high) in
-    rw (forgets_are forgotten v forgot everywhere, is) (grind arith)
 
 -- Where a replica is not ahead, no tick of it is greater than its clock.
 pub not_ahead : (units : ℕ) (m : Member) (b : Batch) → IsBatch units b → ahead_of m b.made_with b.forgotten ≡ None → KnowsNoMore units m b

@@ -33,9 +33,27 @@ impl<const U: usize> Model for Batch<U> {
 
     ghost Value = { Batch };
 
-    ghost view = { λ b. record { source = b.source; mode = b.mode; from = b.from; to = b.to; made_with = b.made_with; forgotten = b.forgotten; changes = b.changes.items; here = b.here.items } };
+    ghost view = { λ b. record {
+      source = b.source;
+      mode = b.mode;
+      from = b.from;
+      to = b.to;
+      made_with = b.made_with;
+      forgotten = b.forgotten;
+      changes = b.changes.items;
+      here = b.here.items;
+    } };
 
-    ghost invariant = { λ b. IsBatch U (record { source = b.source; mode = b.mode; from = b.from; to = b.to; made_with = b.made_with; forgotten = b.forgotten; changes = b.changes.items; here = b.here.items }) };
+    ghost invariant = { λ b. IsBatch U (record {
+      source = b.source;
+      mode = b.mode;
+      from = b.from;
+      to = b.to;
+      made_with = b.made_with;
+      forgotten = b.forgotten;
+      changes = b.changes.items;
+      here = b.here.items;
+    }) };
 }
 
 impl<const U: usize> Batch<U> {

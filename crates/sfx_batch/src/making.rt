@@ -171,7 +171,8 @@ fn next_id<const U: usize, P: Provider<U>>(
     source: &mut P,
     place: &Cut,
 ) -> Result<Option<ItemId>, ProviderFault>
-    ensures value { IfOk result (λ id. id ≡ option_map (λ x. x.id) (first_from place.now (P.state source.old).items)) }
+    ensures value { IfOk result (λ id.
+        id ≡ option_map (λ x. x.id) (first_from place.now (P.state source.old).items)) }
     ensures rests { Rests P.state P.kept P.settled P.came source.old source.new }
     ensures cause { HasCause blames_storage (P.faults source.old) (P.faults source.new) result }
 {

@@ -6,10 +6,11 @@ use Rattle.std.proofs.lemmas.Slice.Eq.{bytes_eq-Decides}
 use Rattle.sfx_model.specs.Acting.{IsOrderly}
 use Rattle.sfx_model.specs.Members.{Community, Member, NamedMember}
 use Rattle.sfx_model.specs.Sets.{Has}
-use Rattle.sfx_model.specs.States.{ChangesMember, IsUntaken, member_named, with_added, with_changed, with_member}
+use Rattle.sfx_model.specs.States.{ChangesMember, member_named, with_added, with_changed, with_member}
 use Rattle.sfx_model.proofs.Communities.{changes_named}
 use Rattle.sfx_community.specs.History.{AreOrderly}
-use Rattle.sfx_community.specs.State.{KeptMember, State, as_record, become, community_of, has_id, has_name, kept_as, member_of, members_with, named_member, state_added, state_with}
+use Rattle.sfx_model.specs.Knowing.{names_id}
+use Rattle.sfx_community.specs.State.{KeptMember, State, as_record, become, community_of, is_taken, kept_as, member_of, members_with, named_member, state_added, state_with}
 use Rattle.sfx_community.proofs.Orderly.{added_orderly, changed_orderly}
 
 -- a member of the state is one of the world's
@@ -73,33 +74,19 @@ pub community_added : (name : List ℕ) (m : Member) (s : State) → community_o
 community_added name m s =
     ap (λ (ms : List NamedMember). record { units = s.units; members = ms }) (named_added s.members (kept_as name (as_record m)))
 
--- a name and an id that no member has
-name_untaken : (name : List ℕ) (ms : List KeptMember) (m : NamedMember) → has_name name ms ≡ false → Has m (map named_member ms) → m.name ≢ name
-name_untaken name [] m none has same = absurd has
-name_untaken name (x ∷ xs) m none has same = by_first (name_untaken name xs m) (bytes_eq x.name name) refl none has where
-  by_first : (has_name name xs ≡ false → Has m (map named_member xs) → m.name ≢ name) → (b : Bool) → bytes_eq x.name name ≡ b → (b || has_name name xs) ≡ false
-      → (m ≡ named_member x) ⊎ Has m (map named_member xs) → ⊥
-  by_first rest true test e h = let bad : true ≡ false = e in cc
-  by_first rest false test e (inl is) =
-      let there : bytes_eq x.name name ≡ true = (bytes_eq-Decides x.name name).1 (sym (ap (λ (y : NamedMember). y.name) is) ∙ same) in
-      let bad : true ≡ false = sym there ∙ test in
-      cc
-  by_first rest false test e (inr there) = rest e there same
-
-id_untaken : (id : ℕ) (ms : List KeptMember) (m : NamedMember) → has_id id ms ≡ false → Has m (map named_member ms) → m.member.id ≢ id
+-- an id that no member has
+pub id_untaken : (id : ℕ) (ms : List KeptMember) (m : NamedMember) → is_taken id ms ≡ false → Has m (map named_member ms) → m.member.id ≢ id
 id_untaken id [] m none has same = absurd has
-id_untaken id (x ∷ xs) m none has same = by_first (id_untaken id xs m) (nat_eq x.member.id id) refl none has where
-  by_first : (has_id id xs ≡ false → Has m (map named_member xs) → m.member.id ≢ id) → (b : Bool) → nat_eq x.member.id id ≡ b → (b || has_id id xs) ≡ false
+id_untaken id (x ∷ xs) m none has same = by_first (id_untaken id xs m) (names_id id x.member) refl none has where
+  by_first : (is_taken id xs ≡ false → Has m (map named_member xs) → m.member.id ≢ id) → (b : Bool) → names_id id x.member ≡ b → (b || is_taken id xs) ≡ false
       → (m ≡ named_member x) ⊎ Has m (map named_member xs) → ⊥
   by_first rest true test e h = let bad : true ≡ false = e in cc
   by_first rest false test e (inl is) =
       let there : nat_eq x.member.id id ≡ true = eq-eqb x.member.id id (sym (ap (λ (y : NamedMember). y.member.id) is) ∙ same) in
-      let bad : true ≡ false = sym there ∙ test in
+      let named : names_id id x.member ≡ true = rw there refl in
+      let bad : true ≡ false = sym named ∙ test in
       cc
   by_first rest false test e (inr there) = rest e there same
-
-pub untaken : (name : List ℕ) (id : ℕ) (ms : List KeptMember) → has_name name ms ≡ false → has_id id ms ≡ false → IsUntaken name id (map named_member ms)
-untaken name id ms names ids m has = (name_untaken name ms m names has, id_untaken id ms m ids has)
 
 -- lists that stay in order
 pub with_orderly : (s : State) (name : List ℕ) (n : Member) → AreOrderly (community_of s) → IsOrderly s.units n → AreOrderly (community_of (state_with name n s))

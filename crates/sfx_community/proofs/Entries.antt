@@ -1,5 +1,5 @@
 -- The replicas of the program, as they stand in the map.
-use Rattle.std.proofs.Common.{◌≡◌, ℕ, suc, ◌<◌, ◌||◌, Bool, true, false, cond, nat_eq, Option, Some, None, List, [], ◌∷◌, inl, inr, refl, sym, ap, ◌∙◌, length, slice_get, get_or, drop, position, is_some, option_map, subst, arith, ◌+◌}
+use Rattle.std.proofs.Common.{◌≡◌, ℕ, suc, ◌<◌, ◌||◌, Bool, true, false, cond, Option, Some, None, List, [], ◌∷◌, inl, inr, refl, sym, ap, ◌∙◌, length, slice_get, get_or, drop, position, is_some, option_map, subst, arith, ◌+◌}
 use Rattle.std.specs.List.{position_from}
 use Rattle.std.specs.Map.{keys_of, lookup, values_of}
 use Rattle.std.specs.Borrow.{Bor}
@@ -12,7 +12,8 @@ use Rattle.std.proofs.lemmas.List.{drop_more, length-map}
 use Rattle.std.proofs.lemmas.Option.{slice_get_cases, slice_get-map, slice_get-get_or}
 use Rattle.std.proofs.lemmas.Iterator.Adapters.{position_from-zero}
 use Rattle.sfx_model.specs.Members.{Member}
-use Rattle.sfx_community.specs.State.{KeptData, KeptMember, has_id, has_name, kept_as, member_of, members_view, members_with}
+use Rattle.sfx_model.specs.Knowing.{names_id}
+use Rattle.sfx_community.specs.State.{KeptData, KeptMember, is_taken, has_name, kept_as, member_of, members_view, members_with}
 
 abbrev pub Entries : Type 0
 Entries = List (List ℕ × KeptData)
@@ -125,9 +126,9 @@ entry_member es i e at = slice_get-map (λ e. kept_as e.0 e.1) es i ∙ ap (λ o
 
 -- one more member asked for its id
 pub id_asked : (id : ℕ) (ms : List KeptMember) (i : ℕ) → i < length ms
-    → has_id id (drop i ms) ≡ (option_map_or (λ m. nat_eq m.member.id id) (slice_get ms i) false || has_id id (drop (i + 1) ms))
+    → is_taken id (drop i ms) ≡ (option_map_or (λ m. names_id id m.member) (slice_get ms i) false || is_taken id (drop (i + 1) ms))
 id_asked id ms i within = elim (slice_get_cases ms i).1 [
-  | inl (m, lt, at, get) ↦ rw at (ap (λ xs. has_id id xs) (members_from ms i m at))
+  | inl (m, lt, at, get) ↦ rw at (ap (λ xs. is_taken id xs) (members_from ms i m at))
   | inr (past, none) ↦ absurd (omega (arith, past, within))
 ]
 

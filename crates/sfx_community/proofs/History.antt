@@ -1,38 +1,41 @@
--- What the lines of a script do in a world that the state represents.
-use Rattle.std.proofs.Common.{subst, ◌≡◌, ℕ, Bool, true, false, ◌||◌, if◌then◌else◌, List, [], ◌∷◌, ◌++◌, inl, inr, refl, sym}
+-- What the lines of a script do in a world in which the state stands.
+use Rattle.std.proofs.Common.{subst, ◌≡◌, ◌⊎◌, ℕ, Bool, true, false, ◌||◌, if◌then◌else◌, List, [], ◌∷◌, inl, inr, refl, sym}
+use Rattle.sfx_model.proofs.Deeding.{after_deeds_append, legal_deeds_append}
 use Rattle.sfx_model.proofs.Headline.{facts_hold}
-use Rattle.sfx_model.specs.Events.{Deed, after_deed, event_of, after_deeds, AreLegalDeeds}
-use Rattle.sfx_model.specs.Members.{RepresentsWorld}
+use Rattle.sfx_model.specs.Events.{after_deeds, AreLegalDeeds}
+use Rattle.sfx_model.specs.Members.{Member}
+use Rattle.sfx_model.specs.Standing.{IsElsewhere, StandsIn, StateStandsIn}
 use Rattle.sfx_model.specs.World.{World, WellFormed}
 use Rattle.sfx_script.specs.Reading.{reading_of}
 use Rattle.sfx_script.specs.Script.{is_passed}
-use Rattle.sfx_community.specs.History.{AreNotAhead, AreOrderly, HasHappened, IsNotAhead, has_session, is_of_session}
+use Rattle.sfx_community.specs.History.{AllFit, AreNotAhead, AreOrderly, HasHappened, IsAllOf, IsNotAhead, has_session, is_of_session}
 use Rattle.sfx_community.specs.State.{State, community_of}
 use Rattle.sfx_community.specs.Turn.{Turn, Turns, first_then, turn, turns}
-use Rattle.sfx_community.proofs.LinesHappen.{LineHappens, Stands, limits_kept, line_happens}
+use Rattle.sfx_community.proofs.Elsewhere.{CountStays, fit_append, fit_parts, state_elsewhere, stays_on}
+use Rattle.sfx_community.proofs.LinesHappen.{LineGoes, LineHappens, MaySync, Stands, limits_kept, line_happens}
 
--- deeds one after the other
-legal-append : (w : World) (ds es : List Deed) → AreLegalDeeds w ds → AreLegalDeeds (after_deeds w ds) es → AreLegalDeeds w (ds ++ es)
-legal-append w [] es first second = second
-legal-append w (d ∷ ds) es first second = (first.0, legal-append (after_deed w (event_of w d)) ds es first.1 second)
-
-after_deeds-append : (w : World) (ds es : List Deed) → after_deeds w (ds ++ es) ≡ after_deeds (after_deeds w ds) es
-after_deeds-append w [] es = refl
-after_deeds-append w (d ∷ ds) es = after_deeds-append (after_deed w (event_of w d)) ds es
-
-record AllHappen (w : World) (t : Turns) : Type 0 where
+-- what lines do where they fit the world
+record AllGo (w : World) (s : State) (t : Turns) : Type 0 where
   pub legal : AreLegalDeeds w t.deeds
   pub well_formed : WellFormed (after_deeds w t.deeds)
-  pub represents : RepresentsWorld (after_deeds w t.deeds) (community_of t.state)
+  pub stands : StateStandsIn (after_deeds w t.deeds) (community_of t.state)
+  pub elsewhere : (k : Member) → StandsIn w k → IsElsewhere k (community_of s) → StandsIn (after_deeds w t.deeds) k
+  pub count : CountStays w (after_deeds w t.deeds)
 
 -- one line and those behind it
-then_happen : (w : World) (s : State) (t : Turn) (ts : Turns) → LineHappens w s t → AllHappen (after_deeds w t.deeds) ts → AllHappen w (first_then t ts)
-then_happen w s t ts one others =
-    let along = sym (after_deeds-append w t.deeds ts.deeds) in
+then_go : (w : World) (s : State) (t : Turn) (ts : Turns) → LineGoes w s t → AllGo (after_deeds w t.deeds) t.state ts → AllGo w s (first_then t ts)
+then_go w s t ts one others =
+    let along = sym (after_deeds_append w t.deeds ts.deeds) in
     record {
-      legal = legal-append w t.deeds ts.deeds one.legal others.legal;
+      legal = legal_deeds_append w t.deeds ts.deeds one.legal others.legal;
       well_formed = rw along at others.well_formed;
-      represents = rw along at others.represents;
+      stands = rw along at others.stands;
+      elsewhere = λ k stands away.
+          let (here, still) = one.elsewhere k stands away in
+          subst (λ (x : World). StandsIn x k) along (others.elsewhere k here still);
+      count =
+          subst (λ (x : World). CountStays w x) along
+          (stays_on w (after_deeds w t.deeds) (after_deeds (after_deeds w t.deeds) ts.deeds) one.count others.count);
     }
 
 -- one reply, and those behind it
@@ -42,78 +45,114 @@ then_not_ahead t ts one others reply has = elim has [
   | inr there ↦ others reply there
 ]
 
--- what lines do from a state of which all lists are in order
-record LinesHappen (w : World) (t : Turns) : Type 0 where
-  pub all : AllHappen w t
-  pub orderly : AreOrderly (community_of t.state)
-  pub not_ahead : AreNotAhead t.replies
+-- Sessions may run where the lists of all members are in order; so only then replies tell of some.
+abbrev MayRun : State → Turns → Type 0
+MayRun s t = AreOrderly (community_of s) ⊎ (has_session t.replies ≡ false)
 
-lines_happen : (w : World) (s : State) (lines : List (List ℕ)) → Stands w s → AreOrderly (community_of s) → LinesHappen w (turns s lines)
-lines_happen w s [] at orderly = record {
-  all = record { legal = tt; well_formed = at.ok; represents = at.rep };
-  orderly = orderly;
-  not_ahead = λ reply has. absurd has;
-}
-lines_happen w s (line ∷ lines) at orderly =
-    let one = line_happens w s (reading_of line) (limits_kept line) at (inl orderly) in
-    by_passed (is_passed line) (lines_happen w s lines at orderly)
-    (lines_happen (after_deeds w (turn s line).deeds) (turn s line).state lines (record { ok = one.well_formed; rep = one.represents }) (one.orderly orderly)) one where
-      by_passed : (b : Bool) → LinesHappen w (turns s lines)
-          → LinesHappen (after_deeds w (turn s line).deeds) (turns (turn s line).state lines) → LineHappens w s (turn s line)
-          → LinesHappen w (if b then turns s lines else first_then (turn s line) (turns (turn s line).state lines))
-      by_passed true rest others one = rest
-      by_passed false rest others one = record {
-        all = then_happen w s (turn s line) (turns (turn s line).state lines) one others.all;
-        orderly = others.orderly;
-        not_ahead = then_not_ahead (turn s line) (turns (turn s line).state lines) (one.not_ahead orderly) others.not_ahead;
-      }
-
--- where no session runs, from any state
 neither : (a b : Bool) → (a || b) ≡ false → (a ≡ false) × (b ≡ false)
 neither false b e = (refl, e)
 neither true b e = let bad : true ≡ false = e in absurd (cc)
 
-lines_alone : (w : World) (s : State) (lines : List (List ℕ)) → Stands w s → has_session (turns s lines).replies ≡ false → AllHappen w (turns s lines)
-lines_alone w s [] at none = record { legal = tt; well_formed = at.ok; represents = at.rep }
-lines_alone w s (line ∷ lines) at none =
-    by_passed (is_passed line) (lines_alone w s lines at)
-    (λ one rest. lines_alone (after_deeds w (turn s line).deeds) (turn s line).state lines (record { ok = one.well_formed; rep = one.represents }) rest) none where
-      by_passed : (b : Bool) → (has_session (turns s lines).replies ≡ false → AllHappen w (turns s lines))
-          → (LineHappens w s (turn s line) → has_session (turns (turn s line).state lines).replies ≡ false
-          → AllHappen (after_deeds w (turn s line).deeds) (turns (turn s line).state lines))
-          → has_session (if b then turns s lines else first_then (turn s line) (turns (turn s line).state lines)).replies ≡ false
-          → AllHappen w (if b then turns s lines else first_then (turn s line) (turns (turn s line).state lines))
-      by_passed true here others none = here none
-      by_passed false here others none =
-          let (mine, rest) = neither (is_of_session (turn s line).reply) (has_session (turns (turn s line).state lines).replies) none in
-          let one = line_happens w s (reading_of line) (limits_kept line) at (inr mine) in
-          then_happen w s (turn s line) (turns (turn s line).state lines) one (others one rest)
+first_may : (s : State) (t : Turn) (ts : Turns) → MayRun s (first_then t ts) → MaySync s t
+first_may s t ts (inl orderly) = inl orderly
+first_may s t ts (inr none) = inr (neither (is_of_session t.reply) (has_session ts.replies) none).0
 
-happened : (w : World) (s : State) (t : Turns) → Stands w s → AllHappen w t → HasHappened w s t
+rest_may : (w : World) (s : State) (t : Turn) (ts : Turns) → LineHappens w s t → MayRun s (first_then t ts) → MayRun t.state ts
+rest_may w s t ts one (inl orderly) = inl (one.orderly orderly)
+rest_may w s t ts one (inr none) = inr (neither (is_of_session t.reply) (has_session ts.replies) none).1
+
+-- what lines do
+record LinesHappen (w : World) (s : State) (t : Turns) : Type 0 where
+  pub go : AllFit w t.deeds → AllGo w s t
+  pub fit : IsAllOf w (community_of s) → AllFit w t.deeds
+  pub all : IsAllOf w (community_of s) → IsAllOf (after_deeds w t.deeds) (community_of t.state)
+  pub orderly : AllFit w t.deeds → AreOrderly (community_of s) → AreOrderly (community_of t.state)
+  pub not_ahead : AllFit w t.deeds → AreOrderly (community_of s) → AreNotAhead t.replies
+
+then_happen :
+    (w : World) (s : State) (t : Turn) (ts : Turns)
+    → LineHappens w s t → (Stands (after_deeds w t.deeds) t.state → LinesHappen (after_deeds w t.deeds) t.state ts)
+    → LinesHappen w s (first_then t ts)
+then_happen w s t ts one others = record {
+  go = λ fit.
+      let goes = one.goes (fit_parts w t.deeds ts.deeds fit).0 in
+      then_go w s t ts goes ((next fit).go (fit_parts w t.deeds ts.deeds fit).1);
+  fit = λ all. fit_append w t.deeds ts.deeds (one.fit all) ((after_fit (one.fit all)).fit (one.all all));
+  all = λ all.
+      subst (λ (x : World). IsAllOf x (community_of ts.state)) (sym (after_deeds_append w t.deeds ts.deeds))
+      ((after_fit (one.fit all)).all (one.all all));
+  orderly = λ fit orderly. (next fit).orderly (fit_parts w t.deeds ts.deeds fit).1 (one.orderly orderly);
+  not_ahead = λ fit orderly.
+      then_not_ahead t ts (one.not_ahead orderly) ((next fit).not_ahead (fit_parts w t.deeds ts.deeds fit).1 (one.orderly orderly));
+}
+  where
+    after_fit : AllFit w t.deeds → LinesHappen (after_deeds w t.deeds) t.state ts
+    after_fit fit = let goes = one.goes fit in others (record { ok = goes.well_formed; stands = goes.stands })
+
+    next : AllFit w (first_then t ts).deeds → LinesHappen (after_deeds w t.deeds) t.state ts
+    next fit = after_fit (fit_parts w t.deeds ts.deeds fit).0
+
+lines_happen : (w : World) (s : State) (lines : List (List ℕ)) → Stands w s → MayRun s (turns s lines) → LinesHappen w s (turns s lines)
+lines_happen w s [] at may = record {
+  go = λ fit. record { legal = tt; well_formed = at.ok; stands = at.stands; elsewhere = λ k stands away. stands; count = inr refl };
+  fit = λ all. tt;
+  all = λ all. all;
+  orderly = λ fit orderly. orderly;
+  not_ahead = λ fit orderly reply has. absurd has;
+}
+lines_happen w s (line ∷ lines) at may =
+    by_passed (is_passed line) (lines_happen w s lines at)
+    (λ here. lines_happen (after_deeds w (turn s line).deeds) (turn s line).state lines here) may where
+      by_passed : (b : Bool) → (MayRun s (turns s lines) → LinesHappen w s (turns s lines))
+          → (Stands (after_deeds w (turn s line).deeds) (turn s line).state → MayRun (turn s line).state (turns (turn s line).state lines)
+          → LinesHappen (after_deeds w (turn s line).deeds) (turn s line).state (turns (turn s line).state lines))
+          → MayRun s (if b then turns s lines else first_then (turn s line) (turns (turn s line).state lines))
+          → LinesHappen w s (if b then turns s lines else first_then (turn s line) (turns (turn s line).state lines))
+      by_passed true rest others may = rest may
+      by_passed false rest others may =
+          let one = line_happens w s (reading_of line) (limits_kept line) at (first_may s (turn s line) (turns (turn s line).state lines) may) in
+          then_happen w s (turn s line) (turns (turn s line).state lines) one
+          (λ here. others here (rest_may w s (turn s line) (turns (turn s line).state lines) one may))
+
+happened : (w : World) (s : State) (t : Turns) → Stands w s → AllGo w s t → HasHappened w s t
 happened w s t at all = record {
   legal = all.legal;
   well_formed = all.well_formed;
-  represents = all.represents;
-  facts_before = facts_hold w (community_of s) at.ok at.rep;
-  facts_afterwards = facts_hold (after_deeds w t.deeds) (community_of t.state) all.well_formed all.represents;
+  stands = all.stands;
+  elsewhere = λ c stands apart.
+      state_elsewhere w (after_deeds w t.deeds) c at.ok all.count stands
+      (λ m has. all.elsewhere m.member (stands.members m has) (apart m has));
+  facts_before = facts_hold w (community_of s) at.ok at.stands;
+  facts_afterwards = facts_hold (after_deeds w t.deeds) (community_of t.state) all.well_formed all.stands;
 }
 
-pub turns_happen_lem : (w : World) (s : State) (lines : List (List ℕ)) → WellFormed w → RepresentsWorld w (community_of s) → AreOrderly (community_of s)
-    → HasHappened w s (turns s lines)
-turns_happen_lem w s lines ok rep orderly =
-    let at : Stands w s = record { ok = ok; rep = rep } in
-    happened w s (turns s lines) at (lines_happen w s lines at orderly).all
+pub turns_happen_lem : (w : World) (s : State) (lines : List (List ℕ)) → WellFormed w → StateStandsIn w (community_of s) → AreOrderly (community_of s)
+    → AllFit w (turns s lines).deeds → HasHappened w s (turns s lines)
+turns_happen_lem w s lines ok stands orderly fit =
+    let at : Stands w s = record { ok = ok; stands = stands } in
+    happened w s (turns s lines) at ((lines_happen w s lines at (inl orderly)).go fit)
 
-pub turns_orderly : (w : World) (s : State) (lines : List (List ℕ)) → WellFormed w → RepresentsWorld w (community_of s) → AreOrderly (community_of s)
-    → AreOrderly (community_of (turns s lines).state)
-turns_orderly w s lines ok rep orderly = (lines_happen w s lines (record { ok = ok; rep = rep }) orderly).orderly
+pub turns_orderly : (w : World) (s : State) (lines : List (List ℕ)) → WellFormed w → StateStandsIn w (community_of s) → AreOrderly (community_of s)
+    → AllFit w (turns s lines).deeds → AreOrderly (community_of (turns s lines).state)
+turns_orderly w s lines ok stands orderly fit =
+    (lines_happen w s lines (record { ok = ok; stands = stands }) (inl orderly)).orderly fit orderly
 
-pub turns_not_ahead : (w : World) (s : State) (lines : List (List ℕ)) → WellFormed w → RepresentsWorld w (community_of s) → AreOrderly (community_of s)
-    → AreNotAhead (turns s lines).replies
-turns_not_ahead w s lines ok rep orderly = (lines_happen w s lines (record { ok = ok; rep = rep }) orderly).not_ahead
+pub turns_not_ahead : (w : World) (s : State) (lines : List (List ℕ)) → WellFormed w → StateStandsIn w (community_of s) → AreOrderly (community_of s)
+    → AllFit w (turns s lines).deeds → AreNotAhead (turns s lines).replies
+turns_not_ahead w s lines ok stands orderly fit =
+    (lines_happen w s lines (record { ok = ok; stands = stands }) (inl orderly)).not_ahead fit orderly
 
-pub turns_alone : (w : World) (s : State) (lines : List (List ℕ)) → WellFormed w → RepresentsWorld w (community_of s) → has_session (turns s lines).replies ≡ false
-    → HasHappened w s (turns s lines)
-turns_alone w s lines ok rep none =
-    let at : Stands w s = record { ok = ok; rep = rep } in
-    happened w s (turns s lines) at (lines_alone w s lines at none)
+pub turns_alone : (w : World) (s : State) (lines : List (List ℕ)) → WellFormed w → StateStandsIn w (community_of s) → has_session (turns s lines).replies ≡ false
+    → AllFit w (turns s lines).deeds → HasHappened w s (turns s lines)
+turns_alone w s lines ok stands none fit =
+    let at : Stands w s = record { ok = ok; stands = stands } in
+    happened w s (turns s lines) at ((lines_happen w s lines at (inr none)).go fit)
+
+pub turns_fit : (w : World) (s : State) (lines : List (List ℕ)) → WellFormed w → StateStandsIn w (community_of s) → IsAllOf w (community_of s)
+    → AreOrderly (community_of s) ⊎ (has_session (turns s lines).replies ≡ false) → AllFit w (turns s lines).deeds
+turns_fit w s lines ok stands all may = (lines_happen w s lines (record { ok = ok; stands = stands }) may).fit all
+
+pub turns_whole : (w : World) (s : State) (lines : List (List ℕ)) → WellFormed w → StateStandsIn w (community_of s) → IsAllOf w (community_of s)
+    → AreOrderly (community_of s) ⊎ (has_session (turns s lines).replies ≡ false)
+    → IsAllOf (after_deeds w (turns s lines).deeds) (community_of (turns s lines).state)
+turns_whole w s lines ok stands all may = (lines_happen w s lines (record { ok = ok; stands = stands }) may).all all

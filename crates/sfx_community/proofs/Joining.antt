@@ -12,7 +12,7 @@ use Rattle.sfx_script.specs.Wrong.{place_in, place_of}
 use Rattle.sfx_script.specs.declared.line.Line.{Line}
 use Rattle.sfx_reply.specs.declared.reason.Reason.TheVariants.{Syntax, NameTaken, IdTaken}
 use Rattle.sfx_reply.specs.declared.reply.Reply.TheVariants.{Done}
-use Rattle.sfx_community.specs.State.{KeptData, KeptMember, State, has_id, has_name, kept_as, members_view, state_added, state_among}
+use Rattle.sfx_community.specs.State.{KeptData, KeptMember, State, is_taken, has_name, kept_as, members_view, state_added, state_among}
 use Rattle.sfx_community.specs.Turn.{acted, refused, replica_turn, turn_by, turn_of}
 use Rattle.sfx_community.proofs.Entries.{Entries, name_taken}
 
@@ -30,12 +30,12 @@ pub name_turn : (units : ℕ) (ms : List KeptMember) (name : List ℕ) (id : ℕ
 name_turn units ms name id some taken = rw (said units some, taken) refl
 
 pub id_turn : (units : ℕ) (ms : List KeptMember) (name : List ℕ) (id : ℕ) → 1 ≤ units → has_name name ms ≡ false
-    → has_id id ms ≡ true → replica_turn (state_among units ms) name id ≡ refused (state_among units ms) IdTaken
+    → is_taken id ms ≡ true → replica_turn (state_among units ms) name id ≡ refused (state_among units ms) IdTaken
 id_turn units ms name id some free taken = rw (said units some, free, taken) refl
 
 pub joined_turn : (units : ℕ) (ms : List KeptMember) (name : List ℕ) (id : ℕ) → 1 ≤ units → has_name name ms ≡ false
-    → has_id id ms ≡ false
-    → replica_turn (state_among units ms) name id ≡ acted Done (Join name id) (state_added name (new_member id) (state_among units ms))
+    → is_taken id ms ≡ false
+    → replica_turn (state_among units ms) name id ≡ acted Done (Join id) (state_added name (new_member id) (state_among units ms))
 joined_turn units ms name id some free other = rw (said units some, free, other) refl
 
 -- a new name goes behind the others

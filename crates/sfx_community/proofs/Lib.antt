@@ -5,7 +5,10 @@ pub mod Joining
 pub mod Sessions
 pub mod Orderly
 pub mod Communities
+pub mod Elsewhere
+pub mod Whole
 pub mod LinesHappen
 pub mod History
+pub mod Taken
 pub mod Commits
 pub mod LinesCommit

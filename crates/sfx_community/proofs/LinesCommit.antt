@@ -16,7 +16,7 @@ use Rattle.sfx_script.specs.Script.{is_passed}
 use Rattle.sfx_script.specs.declared.line.Line.{Line}
 use Rattle.sfx_script.specs.declared.line.Line.TheVariants as lines
 use Rattle.sfx_script.specs.declared.options.Options.{Options}
-use Rattle.sfx_community.specs.State.{KeptMember, State, become, has_id, has_name, member_of, members_with, state_with}
+use Rattle.sfx_community.specs.State.{KeptMember, State, become, is_taken, has_name, member_of, members_with, state_with}
 use Rattle.sfx_community.specs.Turn.{Turn, built_rules, create_at, create_by, equal_at, first_then, is_built, is_unit_count, knows_at, last_or, replica_turn, session_at, session_under, set_at, set_by, show_at, sync_by, sync_turn, turn, turn_by, turns, units_turn}
 use Rattle.sfx_community.proofs.Commits.{last_or-append, last_or-map, session_commits}
 use Rattle.sfx_community.proofs.Communities.{found_named}
@@ -40,7 +40,7 @@ units_commits s n =
 replica_commits : (s : State) (name : List ℕ) (id : ℕ) → EndsCommitted s (replica_turn s name id)
 replica_commits s name id =
     whichever (nat_eq s.units 0) _ _ (plain _ refl)
-    (whichever (has_name name s.members) _ _ (plain _ refl) (whichever (has_id id s.members) _ _ (plain _ refl) (plain _ refl)))
+    (whichever (has_name name s.members) _ _ (plain _ refl) (whichever (is_taken id s.members) _ _ (plain _ refl) (plain _ refl)))
 
 create_commits : (s : State) (name : List ℕ) (values : List (List ℕ)) (o : Option KeptMember) → EndsCommitted s (create_at s name o values)
 create_commits s name values None = plain _ refl

@@ -1,6 +1,6 @@
 -- The lines of a script keep the lists of all members in order.
 use Rattle.std.specs.Option.{option_or}
-use Rattle.std.proofs.Common.{◌≡◌, ◌≢◌, ◌⊎◌, ℕ, ◌+◌, ◌<◌, ◌≤◌, ◌^◌, Bool, true, false, if◌then◌else◌, Option, Some, None, List, [], ◌∷◌, ◌++◌, length, inl, inr, refl, sym, ap, ◌∙◌, subst, slice_get, arith}
+use Rattle.std.proofs.Common.{◌≡◌, ◌⊎◌, ℕ, ◌<◌, ◌≤◌, ◌^◌, Bool, true, false, if◌then◌else◌, Option, Some, None, List, [], ◌∷◌, ◌++◌, length, inl, inr, refl, sym, ap, subst, slice_get, arith}
 use Rattle.std.specs.Str.{bytes_eq}
 use Rattle.sfx_ids.specs.declared.cut.Cut.TheVariants.{Start}
 use Rattle.sfx_ids.specs.declared.item_id.ItemId.{ItemId}
@@ -13,13 +13,15 @@ use Rattle.sfx_knowledge.proofs.Known.{IsKnowledge-nothing}
 use Rattle.sfx_model.specs.Acting.{IsOrderly}
 use Rattle.sfx_model.specs.Consistent.{AreApart, live_name}
 use Rattle.sfx_item.specs.Item.{Live, MemberItem}
-use Rattle.sfx_model.specs.Members.{Community, Member, NamedMember, AreRising, RepresentsWorld, state_of}
+use Rattle.sfx_model.specs.Members.{Community, Member, NamedMember, AreRising, state_of}
+use Rattle.sfx_model.specs.Standing.{StateStandsIn}
 use Rattle.sfx_model.specs.Readings.{first_clash}
 use Rattle.sfx_model.specs.Sets.{Has}
 use Rattle.sfx_model.specs.States.{ChangesMember, cells_with, next_created, next_item, next_version, with_item, with_member, with_state}
 use Rattle.sfx_model.specs.World.{World, WellFormed}
 use Rattle.sfx_model.proofs.Acts.{next_unused}
-use Rattle.sfx_model.proofs.Communities.{member_site}
+use Rattle.sfx_model.proofs.Communities.{changing_stands}
+use Rattle.sfx_model.proofs.Sites.{found}
 use Rattle.sfx_model.proofs.Placing.{state_rising, with_rising}
 use Rattle.sfx_replica.specs.Edits.{created, new_member, risen}
 use Rattle.sfx_replica.specs.Refusals.{create_refusal, first_name_refusal, full_clock, name_refusal}
@@ -97,11 +99,11 @@ risen_orderly units m items old room rising apart = record {
   names = apart;
 }
 
-pub created_orderly : (w : World) (c d : Community) (m n : Member) (values : List (List ℕ)) → WellFormed w → RepresentsWorld w c → ChangesMember m n c d
+pub created_orderly : (w : World) (c d : Community) (m n : Member) (values : List (List ℕ)) → WellFormed w → StateStandsIn w c → ChangesMember m n c d
     → IsOrderly c.units m → length values ≡ c.units → create_refusal m values ≡ None → IsOrderly c.units (created m values)
-created_orderly w c d m n values ok rep changes old whole none =
-    let (s, is) = member_site w c d m n ok rep changes in
-    by_first (next_unused w s m ok is.there is.represents) (slice_get values 0) refl none where
+created_orderly w c d m n values ok stands changes old whole none =
+    let (s, at, rep) = (changing_stands w c d m n stands changes).represents in
+    by_first (next_unused w s m ok (found w.sites m.id s at).0 rep) (slice_get values 0) refl none where
       no_first : (vs : List (List ℕ)) → length vs ≡ c.units → slice_get vs 0 ≡ None → ⊥
       no_first [] e f = let some = old.some in omega (arith, e, some)
       no_first (v ∷ vs) e f = let bad : Some v ≡ None = f in cc

@@ -1,10 +1,11 @@
 -- What a script does in the world.
-use Rattle.std.specs.Prelude.{◌≢◌, ℕ, Bool, true, false, List}
+use Rattle.std.specs.Prelude.{◌≡◌, ◌≢◌, ℕ, Bool, true, false, List, [], ◌∷◌}
 use Rattle.std.specs.List.{list_any}
 use Rattle.sfx_model.specs.Acting.{IsOrderly}
-use Rattle.sfx_model.specs.Events.{after_deeds, AreLegalDeeds}
+use Rattle.sfx_model.specs.Events.{Event, Units, Widen, Join, Make, Clean, Forget, Apply, Learn, Deed, Own, ForgetFrom, ApplyFrom, LearnFrom, after_deed, after_deeds, event_of, AreLegalDeeds, IsNewId}
 use Rattle.sfx_model.specs.Headline.{FactsHold}
-use Rattle.sfx_model.specs.Members.{Community, NamedMember, RepresentsWorld}
+use Rattle.sfx_model.specs.Members.{Community, NamedMember}
+use Rattle.sfx_model.specs.Standing.{AreDisjoint, HasNoOtherUnits, IsWhole, StateStandsIn}
 use Rattle.sfx_model.specs.Sets.{Has}
 use Rattle.sfx_model.specs.World.{World, WellFormed}
 use Rattle.sfx_session.specs.declared.session_fault.SessionFault.TheVariants.{Ahead}
@@ -41,12 +42,44 @@ IsNotAhead reply = (tick clock : ℕ) → reply ≢ Refused (Session (Ahead tick
 abbrev pub AreNotAhead : List Reply → Type 0
 AreNotAhead replies = (reply : Reply) → Has reply replies → IsNotAhead reply
 
+-- What the event says of the whole community fits the world: a unit count is the world's, where it has one,
+-- and a replica joins under an id that no other has.
+abbrev pub Fits : World → Event → Type 0
+Fits w (Units units) = HasNoOtherUnits w units
+Fits w (Widen more) = Unit {0}
+Fits w (Join id) = IsNewId w id
+Fits w (Make r i v contents) = Unit {0}
+Fits w (Clean r i v lo hi) = Unit {0}
+Fits w (Forget r snapshot lo hi) = Unit {0}
+Fits w (Apply r snapshot i v marks) = Unit {0}
+Fits w (Learn r snapshot lo hi left) = Unit {0}
+
+-- So does what the deed says.
+abbrev pub DeedFits : World → Deed → Type 0
+DeedFits w (Own event) = Fits w event
+DeedFits w (ForgetFrom r source lo hi) = Unit {0}
+DeedFits w (ApplyFrom r source i v marks) = Unit {0}
+DeedFits w (LearnFrom r source lo hi left) = Unit {0}
+
+-- Each deed fits the world in which its turn comes.
+abbrev pub AllFit : World → List Deed → Type 0
+AllFit w [] = Unit {0}
+AllFit w (d ∷ ds) = DeedFits w d × AllFit (after_deed w (event_of w d)) ds
+
+-- The state is all of the world: each replica has a member, and the unit counts are the same.
+pub record IsAllOf (w : World) (c : Community) : Type 0 where
+  pub whole : IsWhole w c
+  pub units : c.units ≡ w.units
+
 -- What a script did from this state happened in the world. Its deeds were legal, one after another; the
--- world after them is well-formed, and the state afterwards represents it. The three facts hold before
+-- world after them is well-formed, and the state afterwards stands there. Each state that stood in the world
+-- and shares no replica with this one, as that of another machine, stands on. The three facts hold before
 -- and afterwards: knowledge is exact, equal knowledge means equal items, and deletions are respected.
 pub record HasHappened (w : World) (s : State) (t : Turns) : Type 0 where
   pub legal : AreLegalDeeds w t.deeds
   pub well_formed : WellFormed (after_deeds w t.deeds)
-  pub represents : RepresentsWorld (after_deeds w t.deeds) (community_of t.state)
+  pub stands : StateStandsIn (after_deeds w t.deeds) (community_of t.state)
+  pub elsewhere : (c : Community) → StateStandsIn w c → AreDisjoint c (community_of s)
+      → StateStandsIn (after_deeds w t.deeds) c
   pub facts_before : FactsHold w (community_of s)
   pub facts_afterwards : FactsHold (after_deeds w t.deeds) (community_of t.state)

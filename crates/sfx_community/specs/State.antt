@@ -1,7 +1,8 @@
 -- The state of the program as plain data: what stands between a run and the replicas that its script works on.
-use Rattle.std.specs.Prelude.{ℕ, Bool, if◌then◌else◌, Option, Some, None, List, [], ◌∷◌, ◌++◌, map, nat_eq}
+use Rattle.std.specs.Prelude.{ℕ, Bool, if◌then◌else◌, Option, Some, None, List, [], ◌∷◌, ◌++◌, map}
 use Rattle.std.specs.List.{list_any}
 use Rattle.std.specs.Str.{bytes_eq}
+use Rattle.sfx_model.specs.Knowing.{names_id}
 use Rattle.sfx_model.specs.Members.{Member, NamedMember, Community}
 use Rattle.sfx_community.specs.declared.kind.Kind.{Kind}
 use Rattle.sfx_community.specs.declared.kind.Kind.TheVariants.{Record}
@@ -62,9 +63,9 @@ member_of (m ∷ ms) name = if bytes_eq m.name name then Some m else member_of m
 abbrev pub has_name : List ℕ → List KeptMember → Bool
 has_name name members = list_any (λ m. bytes_eq m.name name) members
 
--- A member has this id.
-abbrev pub has_id : ℕ → List KeptMember → Bool
-has_id id members = list_any (λ m. nat_eq m.member.id id) members
+-- The id is taken: a member has it, or knows or has forgotten something that a replica with this id made.
+abbrev pub is_taken : ℕ → List KeptMember → Bool
+is_taken id members = list_any (λ m. names_id id m.member) members
 
 -- The replica in this state; how it is kept stays.
 abbrev pub become : Member → KeptMember → KeptMember

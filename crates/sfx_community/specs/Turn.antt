@@ -29,7 +29,7 @@ use Rattle.sfx_script.specs.Script.{is_passed}
 use Rattle.sfx_script.specs.Wrong.{place_of}
 use Rattle.sfx_community.specs.Comparing.{hold_same, know_same}
 use Rattle.sfx_reply.specs.Listing.{listing}
-use Rattle.sfx_community.specs.State.{KeptMember, State, has_id, has_name, member_of, named_member, state_added, state_with}
+use Rattle.sfx_community.specs.State.{KeptMember, State, is_taken, has_name, member_of, named_member, state_added, state_with}
 use Rattle.sfx_reply.specs.Report.{report_text}
 use Rattle.sfx_reply.specs.declared.reason.Reason.{Reason}
 use Rattle.sfx_reply.specs.declared.reason.Reason.TheVariants.{Syntax, NotBuilt, BadUnits, UnitsSet, NoUnits, NameTaken, IdTaken, NoReplica, BadCount, Edit, Session}
@@ -79,8 +79,8 @@ abbrev pub replica_turn : State → List ℕ → ℕ → Turn
 replica_turn s name id =
     if nat_eq s.units 0 then refused s NoUnits
     else if has_name name s.members then refused s NameTaken
-    else if has_id id s.members then refused s IdTaken
-    else acted Done (Join name id) (state_added name (new_member id) s)
+    else if is_taken id s.members then refused s IdTaken
+    else acted Done (Join id) (state_added name (new_member id) s)
 
 -- `create` makes an item of these values, where nothing refuses it.
 abbrev pub create_by : State → KeptMember → List (List ℕ) → Option EditFault → Turn

@@ -1,4 +1,4 @@
-ghost use Rattle.std.specs.Prelude.{◌≡◌, ◌≤◌, false, nat_eq, slice_get, IfOk, OnOk, OnErr, option_map};
+ghost use Rattle.std.specs.Prelude.{◌≡◌, ◌≤◌, false, slice_get, IfOk, OnOk, OnErr, option_map};
 ghost use Rattle.std.specs.Option.{option_map_or};
 ghost use Rattle.sfx_script.specs.Limits.{AreWithinLimits, IsLimited};
 ghost use Rattle.sfx_reply.specs.declared.reply.Reply.TheVariants.{Synced};
@@ -38,7 +38,8 @@ impl<const U: usize> Model for Members<U> {
 
 impl<const U: usize> Members<U> {
     ghost use Rattle.std.specs.Prelude.{[]};
-    ghost use Rattle.sfx_community.specs.State.{has_id, kept_as, member_of, members_with, state_among};
+    ghost use Rattle.sfx_model.specs.Knowing.{names_id};
+    ghost use Rattle.sfx_community.specs.State.{is_taken, kept_as, member_of, members_with, state_among};
 
     /// There is no replica.
     pub(crate) fn new(alloc: Global) -> Self
@@ -98,7 +99,7 @@ impl<const U: usize> Members<U> {
         if self.kept.contains_key(&name) {
             return Ok(Reply::Refused(Reason::NameTaken));
         }
-        if self.has_id(&id) {
+        if self.is_taken(&id) {
             return Ok(Reply::Refused(Reason::IdTaken));
         }
         let kept = Kept::new(alloc, id)?;
@@ -106,24 +107,24 @@ impl<const U: usize> Members<U> {
         Ok(Reply::Done)
     }
 
-    /// Whether a replica has this id.
-    fn has_id(&self, id: &ReplicaId) -> bool
-        ensures { result ≡ has_id id.now self.now }
+    /// Whether the id is taken: a replica here has it, or has heard of one that has.
+    fn is_taken(&self, id: &ReplicaId) -> bool
+        ensures { result ≡ is_taken id.now self.now }
     {
         for i in 0..self.kept.len() {
-            if self.is_id_at(i, id) {
+            if self.names_at(i, id) {
                 return true;
             }
         }
         false
     }
 
-    /// Whether the replica of this index has this id.
-    fn is_id_at(&self, i: usize, id: &ReplicaId) -> bool
-        ensures { result ≡ option_map_or (λ m. nat_eq m.member.id id.now) (slice_get self.now i) false }
+    /// Whether the replica of this index has this id, or has heard of one that has.
+    fn names_at(&self, i: usize, id: &ReplicaId) -> bool
+        ensures { result ≡ option_map_or (λ m. names_id id.now m.member) (slice_get self.now i) false }
     {
         match self.kept.get_index(i) {
-            Some((_, kept)) => kept.replica.id() == *id,
+            Some((_, kept)) => kept.replica.names(id),
             None => false,
         }
     }

@@ -39,7 +39,8 @@ impl PartialOrd for Cut {
 
     ghost partial_cmp = { as_partial_cmp cut_cmp };
 
-    ghost laws = { partial_order_from_own_ties (Prim.search (comparing, rules) depth 9) (Prim.search (comparing, rules) depth 9) };
+    ghost laws = { partial_order_from_own_ties (Prim.search (comparing, rules) depth 9)
+        (Prim.search (comparing, rules) depth 9) };
 
     fn partial_cmp(&self, other: &Cut) -> Option<Ordering> {
         Some(self.cmp(other))

@@ -32,8 +32,8 @@ pub fn read_pair(text: &str, separator: u8) -> Option<(Tick, ReplicaId)>
     requires { IsSeparator separator }
     ensures some { IfSome result (λ pair. IsTick pair.0 × (pair.1 < 2 ^ 128)
         × (text.now ≡ pair_text separator pair.0 pair.1)) }
-    ensures only { (tick replica : ℕ) → IsTick tick → replica < 2 ^ 128 → text.now ≡ pair_text separator tick replica →
-        result ≡ Some (tick, replica) }
+    ensures only { (tick replica : ℕ) → IsTick tick → replica < 2 ^ 128 →
+        text.now ≡ pair_text separator tick replica → result ≡ Some (tick, replica) }
 {
     let (tick, replica) = text.split_once(char::from(separator))?;
     Some((parse_tick(tick)?, parse_replica_exact(replica)?))

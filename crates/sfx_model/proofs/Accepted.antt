@@ -97,7 +97,6 @@ fine_world rs clock known present forgotten fine = record {
   where
     site : Site
     site = record {
-      name = 65 ∷ [];
       id = 1;
       clock = clock;
       known = λ i u. if same_item i example_item && nat_eq u 0 then known else [];

@@ -29,12 +29,12 @@ use Rattle.sfx_model.specs.declared.mark.Mark.TheVariants.{Stays}
 use Rattle.sfx_model.specs.declared.mode.Mode.TheVariants.{Recover}
 use Rattle.sfx_model.specs.Sets.{Has, IsPart}
 use Rattle.sfx_model.specs.World.{World, Site, Snapshot, holding}
-use Rattle.sfx_model.specs.Events.{Event, after_all, site_of, is_in, IsKnownHere}
+use Rattle.sfx_model.specs.Events.{Event, after_all, site_of, is_in, IsKnownHere, seen_by}
 use Rattle.sfx_model.specs.Acting.{IsOrderly, RangeFits, LearnsItem}
 use Rattle.sfx_model.specs.Batch.{Batch}
 use Rattle.sfx_model.specs.Clashes.{Plan, drafted_name}
 use Rattle.sfx_model.specs.Consistent.{live_name}
-use Rattle.sfx_model.specs.Deeds.{version_behind, name_given, changed_first, task_deeds, range_deeds, go_deeds, deeds_or, seen_by, events_with}
+use Rattle.sfx_model.specs.Deeds.{version_behind, name_given, changed_first, task_deeds, range_deeds, go_deeds, deeds_or, events_with}
 use Rattle.sfx_model.specs.Draft.{values_of, absent_draft, is_left}
 use Rattle.sfx_model.specs.Entry.{Task, Unlisted, Change, Entry, Changing, task_item, task_seen, task_draft, task_plan, unlisted_class, is_stamped, clock_after, lacks, state_after, left_from, other_state, change_other, change_others, changed_by, after_task, entry_of}
 use Rattle.sfx_model.specs.Knowing.{laid_known}

@@ -1,31 +1,32 @@
 -- What batches and sessions do, in the words of the laws.
-use Rattle.std.proofs.Common.{◌≡◌, ◌≢◌, ℕ, ◌+◌, ◌≤◌, true, List, length, Option, Some, refl, sym, ◌∙◌, ap, subst}
+use Rattle.std.proofs.Common.{◌≡◌, ◌≢◌, ℕ, ◌+◌, ◌≤◌, true, List, [], ◌∷◌, length, Option, Some, inl, inr, refl, sym, ◌∙◌, ap, subst}
 use Rattle.sfx_ids.specs.declared.cut.Cut.TheVariants.{Start, At}
 use Rattle.sfx_vector.specs.Clocks.{tick_of}
 use Rattle.sfx_knowledge.specs.Forgotten.{fvec}
 use Rattle.sfx_model.specs.declared.mode.Mode.{Mode}
 use Rattle.sfx_model.specs.declared.mode.Mode.TheVariants.{Normal, Recover}
 use Rattle.sfx_model.specs.World.{World, Site, WellFormed}
-use Rattle.sfx_model.specs.Events.{Deed, site_of, is_in}
+use Rattle.sfx_model.specs.Sets.{Has}
+use Rattle.sfx_model.specs.Events.{Deed, after_deeds, site_of, is_in}
 use Rattle.sfx_model.specs.Acting.{IsOrderly, IsDue, KnowsForgotten, DeedsActIn, DeedsContinue, IsMemberOf}
 use Rattle.sfx_model.specs.Batch.{Batch, mode_of}
 use Rattle.sfx_model.specs.Deeds.{batch_deeds, session_deeds, events_with}
 use Rattle.sfx_model.specs.Knowing.{laid_known}
-use Rattle.sfx_model.specs.Members.{Member, Community, RepresentsWorld, Represents, shown, vector_at}
+use Rattle.sfx_model.specs.Members.{Member, Community, Represents, shown, vector_at}
 use Rattle.sfx_model.specs.Replica.{RepresentsReplica}
 use Rattle.sfx_model.specs.Rules.{Rules}
 use Rattle.sfx_model.specs.Session.{applied, session_of, set_out}
-use Rattle.sfx_model.specs.States.{ChangesMember}
+use Rattle.sfx_model.specs.Standing.{StandsIn, StateStandsIn}
+use Rattle.sfx_model.specs.States.{ChangesMember, IsDeedOf}
 use Rattle.sfx_model.proofs.Batching.{GoesOn}
 use Rattle.sfx_model.proofs.Beginning.{ForgottenKnown}
-use Rattle.sfx_model.proofs.Communities.{member_site}
+use Rattle.sfx_model.proofs.Communities.{changed_stands, changing_stands}
+use Rattle.sfx_model.proofs.Deeding.{deeds_leave, of_any}
 use Rattle.sfx_model.proofs.Due.{due_batch, due_from}
-use Rattle.sfx_model.proofs.Headline.{named_site}
 use Rattle.sfx_model.proofs.Sessioning.{due_acts, mode_known, session_acts}
-use Rattle.sfx_model.proofs.Sites.{site_there}
 use Rattle.sfx_model.proofs.Sourced.{AllName, deeds_are, batch_names, session_names}
 use Rattle.sfx_model.proofs.Sourcing.{Ready, ready_on}
-use Rattle.sfx_model.proofs.Stating.{all_state}
+use Rattle.sfx_model.proofs.Stepping.{AllOf}
 
 -- Both members represent their sites at the start.
 both_ready :
@@ -43,6 +44,13 @@ both_ready w source m snapshot ok at (s, at_s, rep) stands orderly =
       orderly = orderly;
     }
 
+all_of : (snapshot : Site) (ds : List Deed) (r : ℕ) → AllOf (events_with snapshot ds) r → (d : Deed) → Has d ds → IsDeedOf d r
+all_of snapshot [] r of d has = absurd has
+all_of snapshot (e ∷ es) r of d has = elim has [
+  | inl is ↦ subst (λ (x : Deed). IsDeedOf x r) (sym is) (λ seen. of_any snapshot seen e r of.0)
+  | inr there ↦ all_of snapshot es r of.1 d there
+]
+
 -- What goes on in events goes on in deeds.
 deeds_act :
     (w : World) (source m n : Member) (snapshot : Site) (ds : List Deed)
@@ -53,6 +61,7 @@ deeds_act w source m n snapshot ds apart ready named goes =
     let next = ready_on w w.units source m n snapshot (events_with snapshot ds) apart ready goes.acts goes.id in
     record {
       legal = are.legal;
+      own = all_of snapshot ds m.id goes.acts.of;
       well_formed = subst WellFormed (sym are.after) next.ok;
       stays = subst (λ (x : World). RepresentsReplica x source.id (shown source)) (sym are.after) (snapshot, next.at, next.theirs);
       represents = subst (λ (x : World). RepresentsReplica x m.id (shown n)) (sym are.after) goes.acts.stands;
@@ -91,56 +100,39 @@ batch_acts w source m b rules size budget ok apart (snapshot, at, rep) stands th
 
 -- ---- a session
 
-session_goes :
-    (w : World) (source m : Member) (snapshot : Site) (rules : Rules) (size : ℕ) (cut : Option ℕ)
-    → source.id ≢ m.id → Ready w w.units source m snapshot → IsOrderly w.units source → 1 ≤ size
-    → GoesOn w w.units (events_with snapshot (session_deeds w.units source m rules size cut)) m (session_of w.units source m rules size cut).course.member
-unfolding session_of
-session_goes w source m snapshot rules size cut apart ready theirs some =
-    session_acts (length source.items + 1) w w.units source snapshot (mode_of w.units source.forgotten (laid_known w.units m)) rules size
-    (set_out cut m) Start some apart ready theirs (mode_known w.units source m theirs ready.orderly)
-
 pub whole_session_acts :
     (w : World) (source m : Member) (rules : Rules) (size : ℕ) (cut : Option ℕ)
     → WellFormed w → source.id ≢ m.id → RepresentsReplica w source.id (shown source) → RepresentsReplica w m.id (shown m)
     → IsOrderly w.units source → IsOrderly w.units m → 1 ≤ size
     → DeedsActIn w (session_deeds w.units source m rules size cut) source m.id (session_of w.units source m rules size cut).course.member
+unfolding session_of
 whole_session_acts w source m rules size cut ok apart (snapshot, at, rep) stands theirs ours some =
     let ready = both_ready w source m snapshot ok at (snapshot, at, rep) stands ours in
+    let mode = mode_of w.units source.forgotten (laid_known w.units m) in
+    let bound = length source.items + 1 in
     deeds_act w source m (session_of w.units source m rules size cut).course.member snapshot (session_deeds w.units source m rules size cut) apart ready
-    (session_names (length source.items + 1) w.units source (mode_of w.units source.forgotten (laid_known w.units m)) rules size (set_out cut m) Start)
-    (session_goes w source m snapshot rules size cut apart ready theirs some)
+    (session_names bound w.units source mode rules size (set_out cut m) Start)
+    (session_acts bound w w.units source snapshot mode rules size (set_out cut m) Start some apart ready theirs (mode_known w.units source m theirs ready.orderly))
 
--- ---- a state of all members
+-- ---- a state
 
-pub member_stands :
-    (w : World) (c : Community) (m : Member) → WellFormed w → RepresentsWorld w c → IsMemberOf c m → RepresentsReplica w m.id (shown m)
-member_stands w c m ok rep (x, has, is) =
-    let (s, there, named) = named_site w w.sites c.members x rep.members has in
-    let stands : RepresentsReplica w x.member.id (shown x.member) =
-    (s, subst (λ (r : ℕ). site_of w.sites r ≡ Some s) (sym named.represents.header.id) (site_there w.sites s ok.distinct there), named.represents) in
-    subst (λ (y : Member). RepresentsReplica w y.id (shown y)) is stands
+pub member_stands : (w : World) (c : Community) (m : Member) → StateStandsIn w c → IsMemberOf c m → StandsIn w m
+member_stands w c m stands (x, has, is) = subst (λ (y : Member). StandsIn w y) is (stands.members x has)
 
 pub session_state :
     (w : World) (c d : Community) (source m : Member) (rules : Rules) (size : ℕ) (cut : Option ℕ)
-    → WellFormed w → RepresentsWorld w c → source.id ≢ m.id → IsMemberOf c source
+    → WellFormed w → StateStandsIn w c → source.id ≢ m.id → IsMemberOf c source
     → ChangesMember m (session_of w.units source m rules size cut).course.member c d
     → IsOrderly w.units source → IsOrderly w.units m → 1 ≤ size
     → DeedsContinue w (session_deeds w.units source m rules size cut) d
-session_state w c d source m rules size cut ok rep apart there changes theirs ours some =
-    let (snapshot, at, stands) = member_stands w c source ok rep there in
-    let (s, is) = member_site w c d m (session_of w.units source m rules size cut).course.member ok rep changes in
-    let ready = both_ready w source m snapshot ok at (snapshot, at, stands) (s, is.at, is.represents) ours in
-    let goes = session_goes w source m snapshot rules size cut apart ready theirs some in
-    let named = session_names (length source.items + 1) w.units source (mode_of w.units source.forgotten (laid_known w.units m)) rules size (set_out cut m) Start in
-    let are = deeds_are w source.id m.id snapshot (session_deeds w.units source m rules size cut) (λ e. apart (sym e)) ok at named goes.acts.legal goes.acts.of in
-    let next = ready_on w w.units source m (session_of w.units source m rules size cut).course.member snapshot
-    (events_with snapshot (session_deeds w.units source m rules size cut)) apart ready goes.acts goes.id in
+session_state w c d source m rules size cut ok stands apart there changes theirs ours some =
+    let n = (session_of w.units source m rules size cut).course.member in
+    let ds = session_deeds w.units source m rules size cut in
+    let acts = whole_session_acts w source m rules size cut ok apart (member_stands w c source stands there).represents
+    (changing_stands w c d m n stands changes).represents theirs ours some in
     record {
-      legal = are.legal;
-      well_formed = subst WellFormed (sym are.after) next.ok;
-      represents = subst (λ (x : World). RepresentsWorld x d) (sym are.after)
-          (all_state w (events_with snapshot (session_deeds w.units source m rules size cut)) c d m
-          (session_of w.units source m rules size cut).course.member s ok rep goes.acts.legal goes.acts.of changes
-          goes.acts.orderly.rising is.at goes.acts.stands);
+      legal = acts.legal;
+      well_formed = acts.well_formed;
+      stands = changed_stands w (after_deeds w ds) c d m n (deeds_leave w ds m.id ok acts.legal acts.own) stands changes
+          acts.orderly.rising acts.represents;
     }

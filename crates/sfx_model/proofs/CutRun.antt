@@ -1,13 +1,9 @@
 -- The run with a session that is cut.
-use Rattle.std.proofs.Common.{◌≡◌, ◌≢◌, ℕ, ◌+◌, ◌<◌, inl, inr, sym, ap, refl, subst, ◌∙◌, Bool, true, false, if◌then◌else◌, List, [], ◌∷◌, codes, Some, None, get_or, arith, lit≤, lit<}
-use Rattle.sfx_ids.specs.declared.cut.Cut.TheVariants.{Start, At}
+use Rattle.std.proofs.Common.{◌≡◌, ◌≢◌, ℕ, ◌+◌, ◌<◌, ◌^◌, inl, inr, sym, ap, refl, subst, ◌∙◌, Bool, true, false, List, [], ◌∷◌, codes, Some, None, arith, lit≤, lit<}
+use Rattle.sfx_ids.specs.declared.cut.Cut.TheVariants.{At}
 use Rattle.sfx_ids.specs.declared.item_id.ItemId.{ItemId}
-use Rattle.sfx_ids.specs.Cut.{cut_le}
 use Rattle.sfx_ids.specs.Tick.{max_tick}
-use Rattle.sfx_vector.specs.Clocks.{tick_of}
-use Rattle.sfx_knowledge.specs.Row.{row_at}
-use Rattle.sfx_knowledge.specs.Knowledge.{no_row}
-use Rattle.sfx_knowledge.proofs.Forgets.{nothing_form, none_forgotten}
+use Rattle.sfx_knowledge.proofs.Forgets.{nothing_form}
 use Rattle.sfx_knowledge.proofs.Known.{IsKnowledge-nothing}
 use Rattle.sfx_item.specs.Decided.{is_clash}
 use Rattle.sfx_model.specs.Acting.{DeedsContinue, IsOrderly}
@@ -15,15 +11,16 @@ use Rattle.sfx_model.specs.Consistent.{AreApart, live_name}
 use Rattle.sfx_model.specs.CutRun.{before_cut, creation, cut_community, cut_deeds, cut_member, world_before}
 use Rattle.sfx_model.specs.declared.clash_rule.ClashRule.TheVariants.{Skip as SkipClash}
 use Rattle.sfx_model.specs.declared.keep.Keep.TheVariants.{Skip}
-use Rattle.sfx_model.specs.Events.{AllLegal, Join, Units, after}
+use Rattle.sfx_model.specs.Events.{AllLegal, IsNewId, Join, Units, after}
 use Rattle.sfx_model.specs.Headline.{HaveEqualKnowledge}
 use Rattle.sfx_item.specs.Item.{ItemState, MemberItem}
-use Rattle.sfx_model.specs.Members.{Community, NamedMember, AreRising, RepresentsWorld, shown, vector_at}
+use Rattle.sfx_model.specs.Members.{Community, AreRising, shown, vector_at}
 use Rattle.sfx_model.specs.Readings.{clashing_with}
 use Rattle.sfx_model.specs.SessionExamples.{alone, created_of, five, item_of, new, rules_of}
 use Rattle.sfx_model.specs.Sets.{Has}
-use Rattle.sfx_model.specs.States.{Continues, IsNewState, IsUntaken, next_created, with_item}
-use Rattle.sfx_model.specs.World.{World, WellFormed, empty_world}
+use Rattle.sfx_model.specs.Standing.{StateStandsIn}
+use Rattle.sfx_model.specs.States.{Continues, next_created, with_item}
+use Rattle.sfx_model.specs.World.{Site, World, WellFormed, empty_world}
 use Rattle.sfx_model.specs.Batch.{batch_from}
 use Rattle.sfx_model.specs.Class.{class_of, absent_class_of}
 use Rattle.sfx_model.specs.Entry.{task_plan, change_others, changed_by, after_task, entry_of}
@@ -39,35 +36,23 @@ use Rattle.sfx_model.proofs.Placing.{with_rising}
 use Rattle.sfx_model.proofs.Refusals.{empty_well_formed}
 use Rattle.sfx_model.proofs.Turns.{create_turn, empty_state, join_state, units_state}
 use Rattle.sfx_model.proofs.Rising.{item_with}
+use Rattle.sfx_model.proofs.Run.{new_state}
 
 -- The members as A creates item after item, and then with B.
 abbrev a_with : ℕ → List MemberItem → Community
 a_with clock items = record { units = 2; members = record { name = codes "A"; member = alone 10 clock items } ∷ [] }
 
-one_vector : (b : Bool) (u r : ℕ) → tick_of (row_at (if b then (record { base = []; others = [] }) else no_row) u) r ≡ 0
-one_vector true u r = refl
-one_vector false u r = refl
-
-new_state : (id : ℕ) → IsNewState 2 id (alone id 0 [])
-new_state id = record {
-  id_is = refl;
-  clock = refl;
-  knowledge = λ place u r inside small other. one_vector (cut_le Start place) u r;
-  forgotten = λ place r inside. none_forgotten place r;
-  items = refl;
-}
-
 -- A creates one more item.
 one_more :
     (w : World) (clock tick : ℕ) (items more : List MemberItem) (name : List ℕ)
-    → WellFormed w → RepresentsWorld w (a_with clock items) → clock < max_tick
+    → WellFormed w → StateStandsIn w (a_with clock items) → clock < max_tick
     → with_item (next_created (alone 10 clock items) (name ∷ codes "x" ∷ [])) items ≡ more
     → tick ≡ clock + 1
     → Continues w (creation tick name) (a_with tick more)
-one_more w clock tick items more name ok rep room are is =
+one_more w clock tick items more name ok stands room are is =
     subst (λ (t : ℕ). Continues w (creation t name) (a_with t more)) (sym is)
     (create_turn w (a_with clock items) (a_with (clock + 1) more) (alone 10 clock items) (alone 10 (clock + 1) more) (name ∷ codes "x" ∷ [])
-    ok rep
+    ok stands
     (record { front = []; name = codes "A"; back = []; units = refl; before = refl; now = refl })
     room refl
     (record { id = refl; clock = refl; knowledge = λ place u r inside small other. refl; forgotten = refl; holds = sym are }))
@@ -87,7 +72,7 @@ abbrev after_units : World
 after_units = after empty_world (Units 2)
 
 abbrev after_join : World
-after_join = after after_units (Join (codes "A") 10)
+after_join = after after_units (Join 10)
 
 abbrev after_1 : World
 after_1 = after after_join (creation 1 (codes "n1"))
@@ -105,11 +90,11 @@ abbrev after_5 : World
 after_5 = after after_4 (creation 5 (codes "n5"))
 
 step_units : Continues empty_world (Units 2) nobody
-step_units = units_state empty_world (record { units = 0; members = [] }) 2 empty_well_formed empty_state refl refl (lit≤ tt)
+step_units = units_state empty_world (record { units = 0; members = [] }) 2 empty_well_formed (empty_state empty_world) (lit≤ tt) (inl refl)
 
-step_join : Continues after_units (Join (codes "A") 10) (a_with 0 [])
+step_join : Continues after_units (Join 10) (a_with 0 [])
 step_join =
-    join_state after_units nobody (codes "A") 10 (alone 10 0 []) step_units.well_formed step_units.represents (lit≤ tt)
+    join_state after_units nobody (codes "A") 10 (alone 10 0 []) step_units.well_formed step_units.stands (lit≤ tt)
     (λ m has. absurd has) (new_state 10)
 
 abbrev one_item : List MemberItem
@@ -125,39 +110,31 @@ abbrev four_items : List MemberItem
 four_items = item 1 (codes "n1") ∷ item 2 (codes "n2") ∷ item 3 (codes "n3") ∷ item 4 (codes "n4") ∷ []
 
 step_1 : Continues after_join (creation 1 (codes "n1")) (a_with 1 one_item)
-step_1 = one_more after_join 0 1 [] one_item (codes "n1") step_join.well_formed step_join.represents (lit< tt) refl refl
+step_1 = one_more after_join 0 1 [] one_item (codes "n1") step_join.well_formed step_join.stands (lit< tt) refl refl
 
 step_2 : Continues after_1 (creation 2 (codes "n2")) (a_with 2 two_items)
-step_2 = one_more after_1 1 2 one_item two_items (codes "n2") step_1.well_formed step_1.represents (lit< tt) refl refl
+step_2 = one_more after_1 1 2 one_item two_items (codes "n2") step_1.well_formed step_1.stands (lit< tt) refl refl
 
 step_3 : Continues after_2 (creation 3 (codes "n3")) (a_with 3 three_items)
-step_3 = one_more after_2 2 3 two_items three_items (codes "n3") step_2.well_formed step_2.represents (lit< tt) refl refl
+step_3 = one_more after_2 2 3 two_items three_items (codes "n3") step_2.well_formed step_2.stands (lit< tt) refl refl
 
 step_4 : Continues after_3 (creation 4 (codes "n4")) (a_with 4 four_items)
-step_4 = one_more after_3 3 4 three_items four_items (codes "n4") step_3.well_formed step_3.represents (lit< tt) refl refl
+step_4 = one_more after_3 3 4 three_items four_items (codes "n4") step_3.well_formed step_3.stands (lit< tt) refl refl
 
 step_5 : Continues after_4 (creation 5 (codes "n5")) (a_with 5 five.items)
-step_5 = one_more after_4 4 5 four_items five.items (codes "n5") step_4.well_formed step_4.represents (lit< tt) refl refl
+step_5 = one_more after_4 4 5 four_items five.items (codes "n5") step_4.well_formed step_4.stands (lit< tt) refl refl
 
-no_code : (a b : ℕ) → a ∷ [] ≡ b ∷ [] → a ≡ b
-no_code a b e = ap (λ (xs : List ℕ). get_or xs 0 a) e
-
-other_name : codes "A" ≡ codes "B" → ⊥
-other_name e = let bad : 65 ≡ 66 = no_code 65 66 e in absurd (omega (arith, bad))
-
-b_untaken : IsUntaken (codes "B") 11 (a_with 5 five.items).members
-b_untaken m has = elim has [
-  | inl is ↦ (
-    λ e. other_name (ap (λ (x : NamedMember). x.name) (sym is) ∙ e),
-    λ e. let bad : 10 ≡ 11 = ap (λ (x : NamedMember). x.member.id) (sym is) ∙ e in absurd (omega (arith, bad)),
-  )
-  | inr none ↦ absurd none
+-- The one site then is that of A.
+b_new : IsNewId after_5 11
+b_new s has e = elim has [
+  | inl is ↦ let bad : 10 ≡ 11 = ap (λ (x : Site). x.id) (sym is) ∙ e in absurd (omega (arith, bad))
+  | inr none ↦ none
 ]
 
-step_b : Continues after_5 (Join (codes "B") 11) both
+step_b : Continues after_5 (Join 11) both
 step_b =
-    join_state after_5 (a_with 5 five.items) (codes "B") 11 new step_5.well_formed step_5.represents (lit≤ tt)
-    b_untaken (new_state 11)
+    join_state after_5 (a_with 5 five.items) (codes "B") 11 new step_5.well_formed step_5.stands (lit≤ tt)
+    b_new (new_state 11)
 
 pub before_legal : AllLegal empty_world before_cut
 before_legal = (
@@ -225,10 +202,10 @@ five_orderly = record {
 none_apart : AreApart []
 none_apart i j x y a b differ at_i at_j named_i named_j clashes = let bad : None ≡ Some x = at_i in cc
 
-new_orderly : IsOrderly 2 new
-new_orderly = record {
+pub reader_orderly : (id : ℕ) → id < 2 ^ 128 → IsOrderly 2 (alone id 0 [])
+reader_orderly id small = record {
   some = lit≤ tt;
-  id = lit< tt;
+  id = small;
   clock = lit≤ tt;
   knowledge = IsKnowledge-nothing 2;
   forgotten = nothing_form;
@@ -241,7 +218,7 @@ new_orderly = record {
 pub cut_acts : DeedsContinue world_before cut_deeds cut_community
 cut_acts =
     session_state world_before both cut_community five new (rules_of Skip SkipClash) 100 (Some 2)
-    step_b.well_formed step_b.represents (λ e. absurd (omega (arith, e)))
+    step_b.well_formed step_b.stands (λ e. absurd (omega (arith, e)))
     (record { name = codes "A"; member = five }, inl refl, refl)
     (record {
       front = record { name = codes "A"; member = five } ∷ [];
@@ -251,7 +228,7 @@ cut_acts =
       before = refl;
       now = refl;
     })
-    five_orderly new_orderly (lit≤ tt)
+    five_orderly (reader_orderly 11 (lit< tt)) (lit≤ tt)
 
 five_there : vector_at five (At (item_of 3 10)) 0 10 ≡ 5
 five_there = refl

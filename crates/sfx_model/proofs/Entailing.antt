@@ -11,10 +11,10 @@ use Rattle.sfx_model.specs.declared.mode.Mode.{Mode}
 use Rattle.sfx_model.specs.declared.mode.Mode.TheVariants.{Normal, Recover}
 use Rattle.sfx_model.specs.Sets.{Has, IsPart}
 use Rattle.sfx_model.specs.World.{Content, World, Site, Snapshot, WellFormed, IsSound}
-use Rattle.sfx_model.specs.Events.{Event, Deed, Apply, ApplyFrom, AllLegal, after, after_all, site_of, site_applied, applied, known_with, known_by, content_of}
+use Rattle.sfx_model.specs.Events.{Event, Deed, Apply, ApplyFrom, AllLegal, after, after_all, site_of, site_applied, applied, known_with, known_by, content_of, seen_by}
 use Rattle.sfx_model.specs.Acting.{IsOrderly, Supplies, AllActIn, RangeFits, EntryActs, RangeActs, HasTicksLeft, LearnsItem}
 use Rattle.sfx_model.specs.Batch.{Batch}
-use Rattle.sfx_model.specs.Deeds.{mark_with, marks_in, content_in, others_deeds, forget_deeds, changed_first, task_deeds, seen_by, events_with, range_deeds}
+use Rattle.sfx_model.specs.Deeds.{mark_with, marks_in, content_in, others_deeds, forget_deeds, changed_first, task_deeds, events_with, range_deeds}
 use Rattle.sfx_model.specs.Draft.{Draft, is_left}
 use Rattle.sfx_model.specs.Entry.{Task, Unlisted, Change, Changing, change_other, task_item, task_plan}
 use Rattle.sfx_model.specs.Clashes.{Plan}

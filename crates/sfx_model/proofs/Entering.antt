@@ -6,14 +6,13 @@ use Rattle.sfx_ids.specs.declared.version.Version.{Version}
 use Rattle.sfx_ids.specs.ItemId.{creation_of}
 use Rattle.sfx_model.specs.Sets.{Has, IsPart}
 use Rattle.sfx_model.specs.World.{Content, Deleted, Record, Site, Snapshot, World, Holding, holding, IsLatest, HasLiveLatest, IsLive, IsDead, IsClosed, IsSoundItem, WellFormed}
-use Rattle.sfx_model.specs.Events.{UnitMark, Stays, Taken, Stamped, Left, Gone, site_of, recorded, known_with, known_by, content_of, brings, is_dropped, present_after, clock_after, knew_by, site_applied, applied, StampLegal, UnitLegal, AllMarked, AreMixed, AllStay, AllTaken, AllLeft, AllGone, AllDelete, AllWrite, Mixed, ApplyLegal}
+use Rattle.sfx_model.specs.Events.{UnitMark, Stays, Taken, Stamped, Left, Gone, recorded, known_with, known_by, content_of, brings, is_dropped, present_after, clock_after, knew_by, site_applied, StampLegal, UnitLegal, AllMarked, AreMixed, AllStay, AllTaken, AllLeft, AllGone, AllDelete, AllWrite, Mixed, ApplyLegal}
 use Rattle.sfx_model.proofs.Words.{AreSame, Grows, Step}
 use Rattle.sfx_model.proofs.Sets.{same_self}
 use Rattle.sfx_model.proofs.Frame.{grows_self, live_latest_stays, item_stays, above}
-use Rattle.sfx_model.proofs.Sites.{found}
 use Rattle.sfx_model.proofs.Recording.{IsMaking, recorded_grows, made_latest, made_deletes, made_lives}
-use Rattle.sfx_model.proofs.Steps.{fresh_unused, step_keeps}
-use Rattle.sfx_model.proofs.Making.{IsStamp, stamp_step, cells_made, has_with, found_self}
+use Rattle.sfx_model.proofs.Steps.{fresh_unused}
+use Rattle.sfx_model.proofs.Making.{IsStamp, stamp_step, cells_made, has_with}
 use Rattle.sfx_model.proofs.Marks.{present_brought, present_dropped, present_kept, present_stays, clock_stamped, clock_up, stamps_content, stamped_content, knows_more, knows_seen, knows_closed, knows_here, knows_there}
 
 -- the records and the item after an entry
@@ -345,11 +344,3 @@ pub entry_step :
 entry_step w s snapshot i v marks e =
     stamp_step w s i v (knew_by marks snapshot s i) (λ u. content_of (marks u)) (present_after marks w.units (s.present i))
     (clock_after marks w.units v.tick s.clock) e.ok e.there (entry_stamp w s snapshot i v marks e)
-
-pub apply_keeps :
-    (w : World) (r : ℕ) (s : Site) (snapshot : Snapshot) (i : ItemId) (v : Version) (marks : ℕ → UnitMark)
-    → site_of w.sites r ≡ Some s → WellFormed w → ApplyLegal w s snapshot i v marks
-    → WellFormed (applied w s snapshot i v marks)
-apply_keeps w r s snapshot i v marks at ok legal =
-    step_keeps w s (site_applied w.units s snapshot i v marks) (entry_records w s snapshot i v marks) (found_self w r s at) ok
-    (entry_step w s snapshot i v marks (record { ok = ok; there = (found w.sites r s at).0; legal = legal }))

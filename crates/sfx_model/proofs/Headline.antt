@@ -10,9 +10,11 @@ use Rattle.sfx_model.specs.Sets.{Has}
 use Rattle.sfx_model.specs.World.{Record, Written, Deleted, World, Site, WellFormed, IsSoundItem, holding, IsAt, Made, IsDeletion, Precedes, IsLatest, IsHistory}
 use Rattle.sfx_item.specs.declared.cell.Cell.{Cell}
 use Rattle.sfx_item.specs.Item.{ItemState, Live, Dead, version_at}
-use Rattle.sfx_model.specs.Members.{Shown, Represents, ItemRepresents, IsLatestState, IsLatestCell, AreRising, NamedMember, Community, RepresentsNamed, RepresentsAll, RepresentsWorld, shown, state_of}
+use Rattle.sfx_model.specs.Members.{Shown, Represents, ItemRepresents, IsLatestState, IsLatestCell, AreRising, Community, shown, state_of}
+use Rattle.sfx_model.specs.Standing.{StateStandsIn}
 use Rattle.sfx_model.specs.Headline.{IsHeldOrCleaned, KnowledgeIsExact, HaveEqualKnowledge, EqualKnowledgeMeansEqualItems, DeletionsAreRespected, FactsHold}
 use Rattle.sfx_model.proofs.Rising.{live_equal}
+use Rattle.sfx_model.proofs.Sites.{found}
 use Rattle.sfx_model.proofs.Order.{one_record, one_of_both, before_known}
 
 -- A cell of a list that has it
@@ -217,33 +219,18 @@ equal_live w s t m n ok has_s has_t rep_m rep_n rising others same =
     (λ i cells. same_live w s t m n i cells ok has_s has_t rep_m rep_n same)
     (λ i cells. same_live w t s n m i cells ok has_t has_s rep_n rep_m (λ at u r there small. sym (same at u r there small)))
 
--- The site that a named member represents, among these.
-abbrev pub NamedSite : World → List Site → NamedMember → Type 0
-NamedSite w ss m = (s : Site) × Has s ss × RepresentsNamed w s m
-
--- Each member of a list that represents these sites represents one of them.
-pub named_site :
-    (w : World) (ss : List Site) (ms : List NamedMember) (m : NamedMember)
-    → RepresentsAll w ss ms → Has m ms → NamedSite w ss m
-named_site w [] [] m all has = absurd has
-named_site w [] (x ∷ xs) m all has = absurd all
-named_site w (s ∷ ss) [] m all has = absurd has
-named_site w (s ∷ ss) (x ∷ xs) m all has =
-    elim has [
-      | inl is ↦ (s, inl refl, subst (λ (y : NamedMember). RepresentsNamed w s y) (sym is) all.0)
-      | inr there ↦ let (t, has_t, rep) = named_site w ss xs m all.1 there in (t, inr has_t, rep)
-    ]
-
--- The three facts hold of the members of a state that represents a well-formed world.
-pub facts_hold : (w : World) (c : Community) → WellFormed w → RepresentsWorld w c → FactsHold w c
-facts_hold w c ok rep = record {
-  exact = λ m has. let (s, has_s, is) = named_site w w.sites c.members m rep.members has in
-      knowledge_exact w s (shown m.member) ok has_s is.represents;
+-- The three facts hold of the members of a state that stands in a well-formed world.
+pub facts_hold : (w : World) (c : Community) → WellFormed w → StateStandsIn w c → FactsHold w c
+facts_hold w c ok stands = record {
+  exact = λ m has.
+      let (s, at, rep) = (stands.members m has).represents in
+      knowledge_exact w s (shown m.member) ok (found w.sites m.member.id s at).0 rep;
   equal = λ m n has_m has_n.
-      let (s, has_s, is) = named_site w w.sites c.members m rep.members has_m in
-      let (t, has_t, it) = named_site w w.sites c.members n rep.members has_n in
-      equal_live w s t (shown m.member) (shown n.member) ok has_s has_t is.represents it.represents is.rising
-      it.rising;
-  deletions = λ m has. let (s, has_s, is) = named_site w w.sites c.members m rep.members has in
-      deletions_respected w s (shown m.member) ok has_s is.represents;
+      let (s, at_s, here) = (stands.members m has_m).represents in
+      let (t, at_t, there) = (stands.members n has_n).represents in
+      equal_live w s t (shown m.member) (shown n.member) ok (found w.sites m.member.id s at_s).0
+      (found w.sites n.member.id t at_t).0 here there (stands.members m has_m).rising (stands.members n has_n).rising;
+  deletions = λ m has.
+      let (s, at, rep) = (stands.members m has).represents in
+      deletions_respected w s (shown m.member) ok (found w.sites m.member.id s at).0 rep;
 }

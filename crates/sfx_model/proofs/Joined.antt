@@ -50,25 +50,25 @@ clock_still (x ∷ xs) new r = by_test (clock_still xs new r) (nat_eq x.id r)
 
 -- The member of another replica stays.
 pub join_others :
-    (w : World) (name : List ℕ) (id : ℕ) (s : Site) (m : Shown)
-    → Represents w s m → Represents (joined w name id) s m
-join_others w name id s m rep = record {
+    (w : World) (id : ℕ) (s : Site) (m : Shown)
+    → Represents w s m → Represents (joined w id) s m
+join_others w id s m rep = record {
   exact = rep.exact;
   items = rep.items;
   header = rep.header;
   bounded = record {
-    vectors = λ place u r there small. let up = clock_still w.sites (new_site name id) r in let low =
+    vectors = λ place u r there small. let up = clock_still w.sites (new_site id) r in let low =
         rep.bounded.vectors place u r there small in omega arith;
-    forgotten = λ place r there. let up = clock_still w.sites (new_site name id) r in let low =
+    forgotten = λ place r there. let up = clock_still w.sites (new_site id) r in let low =
         rep.bounded.forgotten place r there in omega arith;
   };
 }
 
 -- The member of the new replica represents its site.
 pub join_new :
-    (w : World) (name : List ℕ) (id : ℕ) (m : Shown)
-    → WellFormed w → IsNewMember w.units id m → Represents (joined w name id) (new_site name id) m
-join_new w name id m ok new = record {
+    (w : World) (id : ℕ) (m : Shown)
+    → WellFormed w → IsNewMember w.units id m → Represents (joined w id) (new_site id) m
+join_new w id m ok new = record {
   exact = λ i u v made.
       let (s, has, maker) = (ok.records made.0 made.1).maker in
       let small : u < w.units = subst (λ (x : ℕ). x < w.units) made.2.unit (ok.records made.0 made.1).unit in
@@ -76,7 +76,7 @@ join_new w name id m ok new = record {
         (λ contains. let e = new.vectors (At i) u v.replica tt small in absurd (omega (arith, maker.least))),
         (λ has_v. absurd has_v),
       );
-  items = λ i. subst (λ (xs : List MemberItem). ItemRepresents w.units w.records i (holding (new_site name id) i)
+  items = λ i. subst (λ (xs : List MemberItem). ItemRepresents w.units w.records i (holding (new_site id) i)
       (state_of xs i)) (sym new.items) refl;
   header = record { id = new.id_is; clock = new.clock; forgotten = new.forgotten };
   bounded = record {

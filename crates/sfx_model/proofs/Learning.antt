@@ -1,4 +1,4 @@
-use Rattle.std.proofs.Common.{◌≡◌, ℕ, ◌≤◌, max, inl, inr, ◌∙◌, sym, ap, refl, subst, Bool, true, false, not, ◌&&◌, if◌then◌else◌, nat_eq, List, [], ◌∷◌, ◌++◌, Some, arith, le_refl, le_trans}
+use Rattle.std.proofs.Common.{◌≡◌, ◌≢◌, ℕ, ◌≤◌, max, inl, inr, ◌∙◌, sym, ap, refl, subst, Bool, true, false, not, ◌&&◌, if◌then◌else◌, nat_eq, List, [], ◌∷◌, ◌++◌, arith, le_refl, le_trans}
 use Rattle.std.proofs.lemmas.Bool.{cases_lt, eq-eqb}
 use Rattle.sfx_ids.specs.declared.cut.Cut.{Cut}
 use Rattle.sfx_ids.specs.declared.cut.Cut.TheVariants.{At}
@@ -7,14 +7,12 @@ use Rattle.sfx_ids.specs.declared.version.Version.{Version}
 use Rattle.sfx_ids.specs.Cut.{is_between}
 use Rattle.sfx_ids.specs.ItemId.{creation_of}
 use Rattle.sfx_model.specs.Sets.{Has, IsPart}
-use Rattle.sfx_model.specs.World.{Record, Site, Snapshot, World, Holding, holding, IsOther, AreDistinct, IsContained, IsForgotten, IsSound, IsSoundItem, WellFormed}
-use Rattle.sfx_model.specs.Events.{is_in, site_of, new_site, forgotten_with, forgotten_joined, site_cleaned, cleaned, site_forgot, forgot, is_learned, site_learned, learned, joined, UnitsLegal, JoinLegal, CleanLegal, LearnLegal}
+use Rattle.sfx_model.specs.World.{Record, Site, Snapshot, World, Holding, holding, AreDistinct, IsContained, IsForgotten, IsSound, IsSoundItem, WellFormed}
+use Rattle.sfx_model.specs.Events.{is_in, new_site, forgotten_with, forgotten_joined, site_cleaned, site_forgot, is_learned, site_learned, joined, UnitsLegal, JoinLegal, CleanLegal, LearnLegal}
 use Rattle.sfx_model.proofs.Words.{AreSame, Follows, Step}
 use Rattle.sfx_model.proofs.Sets.{has_left, has_right, has_either, same_self, joined_left}
 use Rattle.sfx_model.proofs.Frame.{grows_self, item_stays, closed_union, above}
-use Rattle.sfx_model.proofs.Sites.{found}
-use Rattle.sfx_model.proofs.Steps.{step_keeps, items_sound, items_more}
-use Rattle.sfx_model.proofs.Making.{found_self}
+use Rattle.sfx_model.proofs.Steps.{items_sound, items_more}
 
 -- a step with which no record comes
 pub quiet_step :
@@ -49,7 +47,7 @@ pub clean_step :
     (w : World) (s : Site) (i : ItemId) (v : Version) (lo hi : Cut)
     → WellFormed w → Has s w.sites → CleanLegal w s i v lo hi → Step w s (site_cleaned s i v lo hi) w.records
 clean_step w s i v lo hi ok there legal =
-    quiet_step w s (site_cleaned s i v lo hi) ok (record { name = refl; id = refl; clock = le_refl s.clock })
+    quiet_step w s (site_cleaned s i v lo hi) ok (record { id = refl; clock = le_refl s.clock })
     (λ j u. items_more s i (s.known i) (λ x y has. has) j u)
     (items_sound w.units w.records w.records s i (s.known i) false (forgotten_with s.forgotten v lo hi) (grows_self w.records)
     (ok.sound s there) (λ j r. forgotten_with_up s.forgotten v lo hi (At j) r)
@@ -65,13 +63,6 @@ clean_step w s i v lo hi ok there legal =
       creation = (ok.sound s there i).creation;
     }))
 
-pub clean_keeps :
-    (w : World) (r : ℕ) (s : Site) (i : ItemId) (v : Version) (lo hi : Cut)
-    → site_of w.sites r ≡ Some s → WellFormed w → CleanLegal w s i v lo hi → WellFormed (cleaned w s i v lo hi)
-clean_keeps w r s i v lo hi at ok legal =
-    step_keeps w s (site_cleaned s i v lo hi) w.records (found_self w r s at) ok
-    (clean_step w s i v lo hi ok (found w.sites r s at).0 legal)
-
 -- forgotten deletions joined
 
 pub forgotten_joined_up :
@@ -86,19 +77,12 @@ pub forget_step :
     (w : World) (s : Site) (snapshot : Snapshot) (lo hi : Cut)
     → WellFormed w → Has s w.sites → Step w s (site_forgot s snapshot lo hi) w.records
 forget_step w s snapshot lo hi ok there =
-    quiet_step w s (site_forgot s snapshot lo hi) ok (record { name = refl; id = refl; clock = le_refl s.clock })
+    quiet_step w s (site_forgot s snapshot lo hi) ok (record { id = refl; clock = le_refl s.clock })
     (λ j u x has. has)
     (λ j.
     item_stays w.units w.records w.records j (holding s j) (holding (site_forgot s snapshot lo hi) j) (grows_self w.records)
     (λ u. same_self (s.known j u)) refl (λ r. forgotten_joined_up s.forgotten snapshot.forgotten lo hi (At j) r)
     (ok.sound s there j))
-
-pub forget_keeps :
-    (w : World) (r : ℕ) (s : Site) (snapshot : Snapshot) (lo hi : Cut)
-    → site_of w.sites r ≡ Some s → WellFormed w → WellFormed (forgot w s snapshot lo hi)
-forget_keeps w r s snapshot lo hi at ok =
-    step_keeps w s (site_forgot s snapshot lo hi) w.records (found_self w r s at) ok
-    (forget_step w s snapshot lo hi ok (found w.sites r s at).0)
 
 -- a learned range
 
@@ -187,65 +171,56 @@ pub learn_step :
     (w : World) (s : Site) (snapshot : Snapshot) (lo hi : Cut) (left : ItemId → ℕ → Bool)
     → WellFormed w → Has s w.sites → LearnLegal w s snapshot lo hi left → Step w s (site_learned s snapshot lo hi left) w.records
 learn_step w s snapshot lo hi left ok there legal =
-    quiet_step w s (site_learned s snapshot lo hi left) ok (record { name = refl; id = refl; clock = le_refl s.clock })
+    quiet_step w s (site_learned s snapshot lo hi left) ok (record { id = refl; clock = le_refl s.clock })
     (λ i u. learned_more (s.known i u) (snapshot.known i u) (is_learned lo hi left i u))
     (λ i. learn_item w s snapshot lo hi left i (ok.sound s there) legal)
-
-pub learn_keeps :
-    (w : World) (r : ℕ) (s : Site) (snapshot : Snapshot) (lo hi : Cut) (left : ItemId → ℕ → Bool)
-    → site_of w.sites r ≡ Some s → WellFormed w → LearnLegal w s snapshot lo hi left
-    → WellFormed (learned w s snapshot lo hi left)
-learn_keeps w r s snapshot lo hi left at ok legal =
-    step_keeps w s (site_learned s snapshot lo hi left) w.records (found_self w r s at) ok
-    (learn_step w s snapshot lo hi left ok (found w.sites r s at).0 legal)
 
 -- a replica that joins
 
 pub distinct_more :
-    (ss : List Site) (new : Site) → AreDistinct ss → ((s : Site) → Has s ss → IsOther s new) → AreDistinct (ss ++ new ∷ [])
+    (ss : List Site) (new : Site) → AreDistinct ss → ((s : Site) → Has s ss → s.id ≢ new.id) → AreDistinct (ss ++ new ∷ [])
 distinct_more [] new d other = (λ x has. absurd has, tt)
 distinct_more (s ∷ ss) new d other = (
-  λ x has. elim (has_either x ss (new ∷ []) has) [
-    | inl old ↦ d.0 x old
+  λ x has same. elim (has_either x ss (new ∷ []) has) [
+    | inl old ↦ d.0 x old same
     | inr here ↦ elim here [
-      | inl e ↦ subst (λ (y : Site). IsOther s y) (sym e) (other s (inl refl))
-      | inr none ↦ absurd none
+      | inl e ↦ other s (inl refl) (sym same ∙ ap (λ (y : Site). y.id) e)
+      | inr none ↦ none
     ]
   ],
   distinct_more ss new d.1 (λ x has. other x (inr has)),
 )
 
 -- a site that knows nothing is sound
-pub new_sound : (w : World) (name : List ℕ) (id : ℕ) → IsSound w (new_site name id)
-new_sound w name id i = record {
+pub new_sound : (w : World) (id : ℕ) → IsSound w (new_site id)
+new_sound w id i = record {
   cells = λ u. record { made = λ v has. absurd has; closed = λ v r has. absurd has };
   held = λ is. absurd (cc);
   cleaned = λ is u v has. absurd has;
   creation = λ u v has. absurd has;
 }
 
-pub join_keeps : (w : World) (name : List ℕ) (id : ℕ) → WellFormed w → JoinLegal w name id → WellFormed (joined w name id)
-join_keeps w name id ok legal = record {
+pub join_keeps : (w : World) (id : ℕ) → WellFormed w → JoinLegal w id → WellFormed (joined w id)
+join_keeps w id ok legal = record {
   counted = λ s has. legal.said;
-  distinct = distinct_more w.sites (new_site name id) ok.distinct
-      (λ s has. record { id = λ e. legal.new_id s has (sym e); name = λ e. legal.new_name s has (sym e) });
+  distinct = distinct_more w.sites (new_site id) ok.distinct legal.new_id;
   history = ok.history;
   records = λ r has.
       let is = ok.records r has in
       record {
-        maker = (is.maker.0, has_left is.maker.0 w.sites (new_site name id ∷ []) is.maker.1, is.maker.2);
+        maker = (is.maker.0, has_left is.maker.0 w.sites (new_site id ∷ []) is.maker.1, is.maker.2);
         unit = is.unit;
         one_item = is.one_item;
         creation = is.creation;
       };
-  sound = λ s has. elim (has_either s w.sites (new_site name id ∷ []) has) [
+  sound = λ s has. elim (has_either s w.sites (new_site id ∷ []) has) [
     | inl old ↦ ok.sound s old
     | inr here ↦ elim here [
-      | inl e ↦ subst (λ (x : Site). IsSound w x) (sym e) (new_sound w name id)
+      | inl e ↦ subst (λ (x : Site). IsSound w x) (sym e) (new_sound w id)
       | inr none ↦ absurd none
     ]
   ];
-  own = λ r s has here is_own. elim (has_either s w.sites (new_site name id ∷ []) here) [
+  own = λ r s has here is_own. elim (has_either s w.sites (new_site id ∷ []) here) [
     | inl old ↦ ok.own r s has old is_own
     | inr there ↦ elim there [
       | inl e ↦
@@ -259,14 +234,16 @@ join_keeps w name id ok legal = record {
 -- units
 
 pub units_keeps : (w : World) (units : ℕ) → WellFormed w → UnitsLegal w units → WellFormed (record w { units = units })
-units_keeps w units ok legal = record {
-  counted = λ s has. legal.some;
-  distinct = ok.distinct;
-  history = ok.history;
-  records = λ r has. absurd (nowhere (ok.records r has).maker.0 (ok.records r has).maker.1);
-  sound = λ s has. absurd (nowhere s has);
-  own = λ r s has here. absurd (nowhere s here);
-}
-  where
-    nowhere : (s : Site) → Has s w.sites → ⊥
-    nowhere s has = subst (λ (ss : List Site). Has s ss) legal.empty has
+units_keeps w units ok legal = elim legal.said [
+  | inl unsaid ↦
+      let nowhere : (s : Site) → Has s w.sites → ⊥ = λ s has. subst (λ (ss : List Site). Has s ss) unsaid.1 has in
+      record {
+        counted = λ s has. legal.some;
+        distinct = ok.distinct;
+        history = ok.history;
+        records = λ r has. absurd (nowhere (ok.records r has).maker.0 (ok.records r has).maker.1);
+        sound = λ s has. absurd (nowhere s has);
+        own = λ r s has here. absurd (nowhere s here);
+      }
+  | inr same ↦ subst (λ (n : ℕ). WellFormed (record w { units = n })) same ok
+]

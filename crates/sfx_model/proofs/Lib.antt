@@ -15,6 +15,7 @@ pub mod Cleanup
 pub mod Learning
 pub mod Marks
 pub mod Entering
+pub mod Happening
 pub mod Joined
 pub mod Replicas
 pub mod Ranges
@@ -23,7 +24,10 @@ pub mod Copying
 pub mod Widening
 pub mod Shapes
 pub mod Keeping
+pub mod Stepping
+pub mod Deeding
 pub mod Communities
+pub mod Parts
 pub mod Acts
 pub mod Turns
 pub mod Placing
@@ -44,7 +48,6 @@ pub mod Shaping
 pub mod Fitting
 pub mod Drafted
 pub mod Clashing
-pub mod Stepping
 pub mod Naming
 pub mod NewNames
 pub mod Counting
@@ -58,9 +61,9 @@ pub mod Batching
 pub mod Due
 pub mod Beginning
 pub mod Sessioning
-pub mod Stating
 pub mod Sourced
 pub mod Concluding
 pub mod Orderly
 pub mod CutRun
+pub mod TwoStates
 pub mod Most

@@ -6,13 +6,12 @@ use Rattle.sfx_ids.specs.declared.version.Version.{Version}
 use Rattle.sfx_ids.specs.ItemId.{creation_of}
 use Rattle.sfx_model.specs.Sets.{Has, IsPart}
 use Rattle.sfx_model.specs.World.{Content, Deleted, Record, Site, World, Made, IsLatest, HasLiveLatest, IsClosed, IsSoundItem, WellFormed}
-use Rattle.sfx_model.specs.Events.{site_of, with_item, recorded, known_with, site_made, made, IsFresh, MakeLegal}
+use Rattle.sfx_model.specs.Events.{with_item, recorded, known_with, site_made, IsFresh, MakeLegal}
 use Rattle.sfx_model.proofs.Words.{IsMadeBy, Step}
 use Rattle.sfx_model.proofs.Sets.{same_self}
 use Rattle.sfx_model.proofs.Frame.{closed_stays}
-use Rattle.sfx_model.proofs.Sites.{found}
 use Rattle.sfx_model.proofs.Recording.{IsNew, IsMaking, recorded_cases, recorded_grows, recorded_history, made_closed, made_latest, made_deletes, made_lives}
-use Rattle.sfx_model.proofs.Steps.{fresh_unused, step_keeps, items_sound, items_more, at_item}
+use Rattle.sfx_model.proofs.Steps.{fresh_unused, items_sound, items_more, at_item}
 
 pub has_with : (v x : Version) (vs : List Version) (o : Option Content) → Has x vs → Has x (known_with v vs o)
 has_with v x vs None has = has
@@ -52,7 +51,7 @@ pub stamp_step :
 stamp_step w s i v knew contents present clock ok there is =
     let grows = recorded_grows w.records i v knew contents w.units is.making in
     record {
-      follows = record { name = refl; id = refl; clock = is.up };
+      follows = record { id = refl; clock = is.up };
       grows = grows;
       history = recorded_history w.records i v knew contents w.units is.making ok.history;
       news = λ r has. elim (recorded_cases i v knew contents w.units w.records r has) [
@@ -158,14 +157,3 @@ make_step w s i v contents ok there legal =
       fresh = λ u c small is. (legal.fresh, refl);
       item = make_item w s i v contents ok there legal;
     })
-
--- the site with this id, found by its own id
-pub found_self : (w : World) (r : ℕ) (s : Site) → site_of w.sites r ≡ Some s → site_of w.sites s.id ≡ Some s
-found_self w r s at = subst (λ (id : ℕ). site_of w.sites id ≡ Some s) (sym (found w.sites r s at).1) at
-
-pub make_keeps :
-    (w : World) (r : ℕ) (s : Site) (i : ItemId) (v : Version) (contents : ℕ → Option Content)
-    → site_of w.sites r ≡ Some s → WellFormed w → MakeLegal w s i v contents → WellFormed (made w s i v contents)
-make_keeps w r s i v contents at ok legal =
-    step_keeps w s (site_made s i v (s.known i) contents) (recorded i v (s.known i) contents w.units w.records)
-    (found_self w r s at) ok (make_step w s i v contents ok (found w.sites r s at).0 legal)

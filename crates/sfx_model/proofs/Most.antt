@@ -1,14 +1,16 @@
 -- The greatest tick that is known or forgotten of a replica, and that it does not pass the replica's clock.
-use Rattle.std.proofs.Common.{◌≡◌, ℕ, zero, suc, ◌+◌, ◌<◌, ◌≤◌, Bool, true, false, if◌then◌else◌, nat_eq, nat_lt, inl, inr, arith, refl, sym, ap, subst, ◌∙◌, List, [], ◌∷◌, map, slice_get, Option, Some, None}
+use Rattle.std.proofs.Common.{◌≡◌, ℕ, zero, suc, ◌+◌, ◌<◌, ◌≤◌, max, Bool, true, false, if◌then◌else◌, nat_eq, nat_lt, inl, inr, arith, refl, sym, ap, subst, ◌∙◌, List, [], ◌∷◌, map, slice_get, Option, Some, None}
 use Rattle.std.specs.List.{flat_map}
 use Rattle.std.proofs.lemmas.Bool.Decides.{nat_tests}
 use Rattle.sfx_ids.specs.declared.cut.Cut.{Cut}
-use Rattle.sfx_ids.proofs.CutOrder.{le-self}
-use Rattle.sfx_vector.specs.Clocks.{Clocks, tick_of}
+use Rattle.sfx_ids.specs.declared.cut.Cut.TheVariants.{Start}
+use Rattle.sfx_ids.proofs.CutOrder.{le-self, start-le}
+use Rattle.sfx_vector.specs.Clocks.{Clocks, AreClocks, tick_of}
 use Rattle.sfx_segments.specs.Segments.{IsPlace, AreSegments}
 use Rattle.sfx_knowledge.specs.Row.{UnitClocks, listed_or, row_at, AreExceptions, IsRow}
-use Rattle.sfx_knowledge.specs.Knowledge.{Known, no_row, tick_at, AreRows, IsKnowledge}
-use Rattle.sfx_knowledge.specs.Forgotten.{Forgets, fvec}
+use Rattle.sfx_knowledge.specs.Knowledge.{Known, no_row, tick_at, AreRows, IsKnowledge, IsMost}
+use Rattle.sfx_knowledge.specs.Forgotten.{Forgets, AreForgets, fvec}
+use Rattle.sfx_knowledge.proofs.Forgets.{same_forgets}
 use Rattle.sfx_knowledge.proofs.RowForms.{listed-here, listed-past, row_at-first}
 use Rattle.sfx_knowledge.proofs.Starts.{found, begins}
 use Rattle.sfx_model.specs.Acting.{IsOrderly}
@@ -154,6 +156,38 @@ forgotten_bound r n forgotten form bound =
     let at = at_has forgotten segment.0 segment.1 in
     let there = begins [] forgotten at.0 segment.0 form at.1 in
     subst (λ (d : Clocks). tick_of d r ≤ n) (there.1 ∙ sym segment.2) (bound segment.0.0 there.0))
+
+-- ---- the greatest tick, as it is computed
+
+known_met : (units r n : ℕ) (known : Known) → IsKnowledge units known → IsMost units known r n
+    → n ≤ most_in r (flat_map (λ p. row_clocks p.1) known)
+known_met units r n known form most =
+    subst (λ (t : ℕ). t ≤ most_in r (flat_map (λ p. row_clocks p.1) known)) most.met.4
+    (known_within r most.met.1 known most.met.0 form.segments most.met.2)
+
+-- forgotten deletions with one vector everywhere
+forgets_are : (forgotten : Forgets) (v : Clocks) → AreForgets forgotten → ((place : Cut) → IsPlace place → fvec forgotten place ≡ v)
+    → forgotten ≡ (Start, v) ∷ []
+forgets_are forgotten v form everywhere =
+    same_forgets forgotten ((Start, v) ∷ []) form
+    (record {
+      segments = (refl, tt);
+      clocks = λ place is. subst AreClocks (everywhere place is ∙ sym (one_segment place)) (form.clocks place is);
+    })
+    (λ place is. everywhere place is ∙ sym (one_segment place))
+  where
+    one_segment : (place : Cut) → fvec ((Start, v) ∷ []) place ≡ v
+    one_segment place = rw (start-le place) refl
+
+pub most_known_is : (units r known_most : ℕ) (known : Known) (forgotten : Forgets) (v : Clocks) → 1 ≤ units
+    → IsKnowledge units known → IsMost units known r known_most
+    → AreForgets forgotten → ((place : Cut) → IsPlace place → fvec forgotten place ≡ v)
+    → max known_most (tick_of v r) ≡ most_known r known forgotten
+most_known_is units r known_most known forgotten v some form most forgot everywhere =
+    let low = known_bound units r known_most known some form most.bound in
+    let high = known_met units r known_most known form most in
+    let is : most_in r (flat_map (λ p. row_clocks p.1) known) ≡ known_most = omega (arith, low, high) in
+    rw (forgets_are forgotten v forgot everywhere, is) (grind arith)
 
 -- ---- no replica of a world is ahead
 

@@ -177,13 +177,6 @@ named_before : (i : ItemId) (old new : List MemberItem) (j : ItemId) (name : Lis
 named_before i old new j name keeps other is =
     record { state = is.state; there = sym (keeps j other) ∙ is.there; live = is.live }
 
-pub one_name : (items : List MemberItem) (j : ItemId) (a b : List ℕ) → IsNamed items j a → IsNamed items j b → a ≡ b
-one_name items j a b first second =
-    let states : Some first.state ≡ Some second.state = sym first.there ∙ second.there in
-    let same : first.state ≡ second.state = cc in
-    let names : Some a ≡ Some b = sym first.live ∙ ap live_name same ∙ second.live in
-    cc
-
 -- One item changes, and its name, if it has one, clashes with those of no others but the listed ones.
 pub apart_changed :
     (i : ItemId) (js : List ItemId) (old new : List MemberItem)

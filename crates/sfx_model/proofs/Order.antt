@@ -3,7 +3,7 @@ use Rattle.std.proofs.Common.{◌≡◌, ℕ, List, [], ◌∷◌, inl, inr, sym
 use Rattle.sfx_ids.specs.declared.item_id.ItemId.{ItemId}
 use Rattle.sfx_ids.specs.declared.version.Version.{Version}
 use Rattle.sfx_model.specs.Sets.{Has}
-use Rattle.sfx_model.specs.World.{Record, IsAt, Made, Precedes, IsLatest, IsClosed, IsHistory}
+use Rattle.sfx_model.specs.World.{Record, IsAt, Made, Precedes, IsClosed, IsHistory}
 
 -- A version of a cell has one record
 pub one_record :
@@ -78,12 +78,6 @@ one_of_both rs i u a b ok before after =
         | inr (p, has_p, at_p, knew_b) ↦ absurd (one_way rs p q i u a b ok has_p has_q at_p at_q knew_b knew_a)
       ]
     ]
-
--- The latest version of a cell is one
-pub one_latest :
-    (rs : List Record) (i : ItemId) (u : ℕ) (vs : List Version) (a b : Version)
-    → IsHistory rs → IsLatest rs i u vs a → IsLatest rs i u vs b → a ≡ b
-one_latest rs i u vs a b ok is_a is_b = one_of_both rs i u a b ok (is_b.1 a is_a.0) (is_a.1 b is_b.0)
 
 -- What precedes a known version is known
 pub before_known :

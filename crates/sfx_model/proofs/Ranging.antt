@@ -13,10 +13,10 @@ use Rattle.sfx_model.specs.declared.mode.Mode.{Mode}
 use Rattle.sfx_model.specs.declared.mode.Mode.TheVariants.{Normal, Recover}
 use Rattle.sfx_model.specs.Sets.{IsPart}
 use Rattle.sfx_model.specs.World.{Record, World, Site, Snapshot, WellFormed, IsSound, IsSoundItem, Made, holding}
-use Rattle.sfx_model.specs.Events.{Forget, Learn, LearnFrom, site_of, site_forgot, forgot, after, Legal, after_all, LearnLegal}
+use Rattle.sfx_model.specs.Events.{Forget, Learn, LearnFrom, site_of, site_forgot, forgot, after, Legal, after_all, LearnLegal, seen_by}
 use Rattle.sfx_model.specs.Acting.{IsOrderly, Supplies, IsGone, RangeFits}
 use Rattle.sfx_model.specs.Batch.{Batch}
-use Rattle.sfx_model.specs.Deeds.{forget_deeds, range_deeds, seen_by, events_with}
+use Rattle.sfx_model.specs.Deeds.{forget_deeds, range_deeds, events_with}
 use Rattle.sfx_model.specs.Members.{Member, Represents, shown}
 use Rattle.sfx_model.specs.Replica.{RepresentsReplica}
 use Rattle.sfx_model.specs.Results.{BacksRange}

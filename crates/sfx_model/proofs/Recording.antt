@@ -153,14 +153,6 @@ recorded_history rs i v knew contents (suc n) m history =
       done,
     )
 
--- where no unit has a content, nothing comes
-pub recorded_none :
-    (rs : List Record) (i : ItemId) (v : Version) (knew : ℕ → List Version) (contents : ℕ → Option Content) (n : ℕ)
-    → ((u : ℕ) → u < n → contents u ≡ None) → recorded i v knew contents n rs ≡ rs
-recorded_none rs i v knew contents zero none = refl
-recorded_none rs i v knew contents (suc n) none =
-    rw (none n (omega arith)) (recorded_none rs i v knew contents n (λ u small. none u (omega arith)))
-
 -- the record of the new version at a unit is the one that came
 pub new_record :
     (rs : List Record) (i : ItemId) (v : Version) (knew : ℕ → List Version) (contents : ℕ → Option Content) (n u : ℕ) (c : Content)

@@ -2,7 +2,8 @@ use Rattle.std.proofs.Common.{◌≡◌, ◌≢◌, ℕ, ◌≤◌, inl, inr, �
 use Rattle.sfx_ids.specs.declared.version.Version.{Version}
 use Rattle.sfx_model.specs.Sets.{Has}
 use Rattle.sfx_model.specs.World.{Written, Record, Precedes, IsLatest, WellFormed, empty_world}
-use Rattle.sfx_model.specs.Examples.{example_item, example_version, example_record, edited, edited_again, deleted, example_world}
+use Rattle.sfx_model.specs.Events.{UnitsLegal}
+use Rattle.sfx_model.specs.Examples.{example_item, example_version, example_record, edited, edited_again, deleted, example_world, run_world}
 
 pub other_tick : (a b : ℕ) → a ≢ b → example_version a ≢ example_version b
 other_tick a b other e = other (ap (λ (v : Version). v.tick) e)
@@ -97,3 +98,10 @@ twice_refused ok =
       inl refl,
       record { item = refl; unit = refl; version = refl },
     )
+
+-- the unit count is 2 and not 3
+pub other_count : UnitsLegal run_world 3 → ⊥
+other_count legal = elim legal.said [
+  | inl unsaid ↦ let bad : 2 ≡ 0 = unsaid.0 in cc
+  | inr same ↦ let bad : 2 ≡ 3 = same in cc
+]

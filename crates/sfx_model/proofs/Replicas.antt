@@ -1,20 +1,17 @@
 -- What an event does to the states that represent replicas: those of others stay, and that of the replica
 -- that acts changes as the event says.
-use Rattle.std.proofs.Common.{◌≡◌, ◌≢◌, ℕ, Bool, List, [], Option, Some, None, IsSomeAnd, refl, sym, ◌∙◌, subst}
+use Rattle.std.proofs.Common.{◌≡◌, ◌≢◌, ℕ, Bool, List, [], Option, Some, inl, inr, refl, sym, ◌∙◌, subst}
 use Rattle.sfx_ids.specs.declared.cut.Cut.{Cut}
 use Rattle.sfx_ids.specs.declared.item_id.ItemId.{ItemId}
 use Rattle.sfx_ids.specs.declared.version.Version.{Version}
-use Rattle.sfx_model.specs.World.{Content, Record, World, Site, Snapshot, WellFormed, holding}
-use Rattle.sfx_model.specs.Events.{Event, Units, Widen, Join, Make, Clean, Forget, Apply, Learn, UnitMark, site_of, put_site, at_site, after, Legal, new_site, recorded, site_made, site_cleaned, site_forgot, site_applied, site_learned, made, cleaned, forgot, applied, learned, MakeLegal, CleanLegal, ApplyLegal, LearnLegal}
+use Rattle.sfx_model.specs.World.{Content, World, Site, Snapshot, WellFormed, holding}
+use Rattle.sfx_model.specs.Events.{Event, Units, Widen, Join, Make, Clean, Forget, Apply, Learn, UnitMark, site_of, put_site, after, Legal, new_site, site_made, site_cleaned, site_forgot, site_applied, site_learned, made, cleaned, forgot, applied, learned, MakeLegal, CleanLegal, ApplyLegal, LearnLegal}
 use Rattle.sfx_item.specs.Item.{ItemState}
 use Rattle.sfx_model.specs.Members.{Shown, Represents, ItemRepresents}
 use Rattle.sfx_model.specs.Results.{EditResult, CleanResult, ForgetResult, EntryResult, LearnResult, Backs, BacksRange, BacksForgotten}
 use Rattle.sfx_model.specs.Replica.{RepresentsReplica, IsOfOthers, IsNewMember}
-use Rattle.sfx_model.proofs.Words.{Step}
 use Rattle.sfx_model.proofs.Sites.{found, put_found, other_found}
-use Rattle.sfx_model.proofs.Making.{make_step}
-use Rattle.sfx_model.proofs.Learning.{clean_step, forget_step, learn_step}
-use Rattle.sfx_model.proofs.Entering.{entry_records, entry_step}
+use Rattle.sfx_model.proofs.Happening.{IsStep, at_site_holds, new_is, new_there, one_step}
 use Rattle.sfx_model.proofs.Standing.{other_stands}
 use Rattle.sfx_model.proofs.Edits.{edit_stands}
 use Rattle.sfx_model.proofs.Cleanup.{clean_stands, forget_stands}
@@ -22,73 +19,47 @@ use Rattle.sfx_model.proofs.Entries.{apply_stands}
 use Rattle.sfx_model.proofs.Ranges.{learn_stands}
 use Rattle.sfx_model.proofs.Joined.{found_still, found_new, join_others, join_new}
 
--- What holds after an event at a site holds where it does so at the site that is found.
-pub at_site_holds :
-    (w : World) (id : ℕ) (change : Site → World) (Ok : Site → Type 0) (Holds : World → Type 0)
-    → ((t : Site) → site_of w.sites id ≡ Some t → Ok t → Holds (change t)) → IsSomeAnd (site_of w.sites id) Ok
-    → Holds (at_site w (site_of w.sites id) change)
-at_site_holds w id change Ok Holds each legal = by_site (site_of w.sites id) refl legal
-  where
-    by_site : (o : Option Site) → site_of w.sites id ≡ o → IsSomeAnd o Ok → Holds (at_site w o change)
-    by_site None e ok = absurd ok
-    by_site (Some t) e ok = each t e ok
-
 -- A step of another site.
-step_others :
-    (w : World) (id : ℕ) (old new : Site) (rs : List Record) (r : ℕ) (m : Shown)
-    → site_of w.sites id ≡ Some old → WellFormed w → Step w old new rs → id ≢ r → RepresentsReplica w r m
-    → RepresentsReplica (record w { records = rs; sites = put_site new w.sites }) r m
-step_others w id old new rs r m at ok step other (s, at_s, rep) =
-    let is : new.id ≡ id = step.follows.id ∙ (found w.sites id old at).1 in
-    let there : site_of w.sites new.id ≡ Some old = subst (λ (x : ℕ). site_of w.sites x ≡ Some old) (sym is) at in (
+pub step_others :
+    (w x : World) (id r : ℕ) (m : Shown)
+    → WellFormed w → IsStep w x id → id ≢ r → RepresentsReplica w r m → RepresentsReplica x r m
+step_others w x id r m ok step other (s, at_s, rep) =
+    subst (λ (y : World). RepresentsReplica y r m) (sym step.is) (
       s,
-      other_found w.sites new r (λ same. other (sym is ∙ same)) ∙ at_s,
-      other_stands w old new rs s m there ok step
-          (found w.sites r s at_s).0 rep,
+      other_found w.sites step.new r (λ same. other (sym (new_is w x id step) ∙ same)) ∙ at_s,
+      other_stands w step.old step.new step.records s m (new_there w x id step) ok step.step (found w.sites r s at_s).0 rep,
     )
 
 -- The members of other replicas go on representing them.
 pub others_stand :
     (w : World) (e : Event) (r : ℕ) (m : Shown)
     → WellFormed w → Legal w e → IsOfOthers e r → RepresentsReplica w r m → RepresentsReplica (after w e) r m
-others_stand w (Units units) r m ok legal other (s, at_s, rep) =
-    let bad : site_of [] r ≡ Some s = subst (λ (ss : List Site). site_of ss r ≡ Some s) legal.empty at_s in
-    absurd (cc)
+others_stand w (Units units) r m ok legal other (s, at_s, rep) = elim legal.said [
+  | inl unsaid ↦
+      let bad : site_of [] r ≡ Some s = subst (λ (ss : List Site). site_of ss r ≡ Some s) unsaid.1 at_s in
+      absurd (cc)
+  | inr same ↦ subst (λ (n : ℕ). RepresentsReplica (record w { units = n }) r m) same (s, at_s, rep)
+]
 others_stand w (Widen more) r m ok legal other stands = absurd other
-others_stand w (Join name id) r m ok legal other (s, at_s, rep) =
-    (s, found_still w.sites (new_site name id) r s at_s, join_others w name id s m rep)
+others_stand w (Join id) r m ok legal other (s, at_s, rep) =
+    (s, found_still w.sites (new_site id) r s at_s, join_others w id s m rep)
 others_stand w (Make id i v contents) r m ok legal other stands =
-    at_site_holds w id (λ t. made w t i v contents) (λ t. MakeLegal w t i v contents) (λ x. RepresentsReplica x r m)
-    (λ t at ok_t. step_others w id t (site_made t i v (t.known i) contents)
-    (recorded i v (t.known i) contents w.units w.records) r m at ok
-    (make_step w t i v contents ok (found w.sites id t at).0 ok_t) other stands) legal
+    step_others w _ id r m ok (one_step w (Make id i v contents) id ok legal refl) other stands
 others_stand w (Clean id i v lo hi) r m ok legal other stands =
-    at_site_holds w id (λ t. cleaned w t i v lo hi) (λ t. CleanLegal w t i v lo hi) (λ x. RepresentsReplica x r m)
-    (λ t at ok_t. step_others w id t (site_cleaned t i v lo hi) w.records r m at ok
-    (clean_step w t i v lo hi ok (found w.sites id t at).0 ok_t) other stands) legal
+    step_others w _ id r m ok (one_step w (Clean id i v lo hi) id ok legal refl) other stands
 others_stand w (Forget id snapshot lo hi) r m ok legal other stands =
-    at_site_holds w id (λ t. forgot w t snapshot lo hi) (λ t. _) (λ x. RepresentsReplica x r m)
-    (λ t at ok_t. step_others w id t (site_forgot t snapshot lo hi) w.records r m at ok
-    (forget_step w t snapshot lo hi ok (found w.sites id t at).0) other stands) legal
+    step_others w _ id r m ok (one_step w (Forget id snapshot lo hi) id ok legal refl) other stands
 others_stand w (Apply id snapshot i v marks) r m ok legal other stands =
-    at_site_holds w id (λ t. applied w t snapshot i v marks) (λ t. ApplyLegal w t snapshot i v marks)
-    (λ x. RepresentsReplica x r m)
-    (λ t at ok_t. step_others w id t (site_applied w.units t snapshot i v marks)
-    (entry_records w t snapshot i v marks) r m at ok
-    (entry_step w t snapshot i v marks (record { ok = ok; there = (found w.sites id t at).0; legal = ok_t }))
-    other stands) legal
+    step_others w _ id r m ok (one_step w (Apply id snapshot i v marks) id ok legal refl) other stands
 others_stand w (Learn id snapshot lo hi left) r m ok legal other stands =
-    at_site_holds w id (λ t. learned w t snapshot lo hi left) (λ t. LearnLegal w t snapshot lo hi left)
-    (λ x. RepresentsReplica x r m)
-    (λ t at ok_t. step_others w id t (site_learned t snapshot lo hi left) w.records r m at ok
-    (learn_step w t snapshot lo hi left ok (found w.sites id t at).0 ok_t) other stands) legal
+    step_others w _ id r m ok (one_step w (Learn id snapshot lo hi left) id ok legal refl) other stands
 
 -- The member of a replica that joined.
 pub joined_stands :
-    (w : World) (name : List ℕ) (id : ℕ) (m : Shown)
-    → WellFormed w → Legal w (Join name id) → IsNewMember w.units id m → RepresentsReplica (after w (Join name id)) id m
-joined_stands w name id m ok legal new =
-    (new_site name id, found_new w.sites (new_site name id) legal.new_id, join_new w name id m ok new)
+    (w : World) (id : ℕ) (m : Shown)
+    → WellFormed w → Legal w (Join id) → IsNewMember w.units id m → RepresentsReplica (after w (Join id)) id m
+joined_stands w id m ok legal new =
+    (new_site id, found_new w.sites (new_site id) legal.new_id, join_new w id m ok new)
 
 -- The site of a replica that acted is found again.
 pub own_found :

@@ -18,11 +18,11 @@ use Rattle.sfx_model.specs.declared.mode.Mode.TheVariants.{Normal, Recover}
 use Rattle.sfx_model.specs.declared.session_end.SessionEnd.{SessionEnd}
 use Rattle.sfx_model.specs.Sets.{Has}
 use Rattle.sfx_model.specs.World.{World, Site, Snapshot}
-use Rattle.sfx_model.specs.Events.{Event, Deed, after_all, is_in}
+use Rattle.sfx_model.specs.Events.{Event, Deed, after_all, is_in, seen_by}
 use Rattle.sfx_model.specs.Acting.{IsOrderly}
 use Rattle.sfx_model.specs.Batch.{Batch, mode_of, is_forgotten_everywhere}
 use Rattle.sfx_model.specs.Class.{is_within}
-use Rattle.sfx_model.specs.Deeds.{batch_deeds, deeds_unless, deeds_from, seen_by, events_with}
+use Rattle.sfx_model.specs.Deeds.{batch_deeds, deeds_unless, deeds_from, events_with}
 use Rattle.sfx_model.specs.Knowing.{laid_known, forgets_starts}
 use Rattle.sfx_model.specs.Members.{Member, vector_at}
 use Rattle.sfx_model.specs.Rules.{Rules}

@@ -15,9 +15,6 @@ has_either x [] ys h = inr h
 has_either x (z ∷ zs) ys h =
     elim h [ inl e ↦ inl (inl e) | inr t ↦ elim (has_either x zs ys t) [ inl a ↦ inl (inr a) | inr b ↦ inr b ] ]
 
-pub part_self : {A : Type 0} (xs : List A) → IsPart xs xs
-part_self xs = λ x h. h
-
 pub same_self : {A : Type 0} (xs : List A) → AreSame xs xs
 same_self xs = record { there = λ x h. h; back = λ x h. h }
 

@@ -28,7 +28,7 @@ site_there (x ∷ xs) s d has = by_test (site_there xs s d.1) (nat_eq x.id s.id)
     by_test more true t h =
         elim h [
           | inl e ↦ ap {B = Option Site} Some (sym e)
-          | inr there ↦ absurd ((d.0 s there).id (sym (eqb-true x.id s.id t)))
+          | inr there ↦ absurd (d.0 s there (sym (eqb-true x.id s.id t)))
         ]
     by_test more false t h =
         elim h [
@@ -50,7 +50,7 @@ put_cases (y ∷ ys) s x d has = by_test (put_cases ys s x d.1) (nat_eq y.id s.i
     by_test more true t h =
         elim h [
           | inl e ↦ inl e
-          | inr there ↦ inr (inr there, λ same. (d.0 x there).id (same ∙ sym (eqb-true y.id s.id t)))
+          | inr there ↦ inr (inr there, λ same. d.0 x there (same ∙ sym (eqb-true y.id s.id t)))
         ]
     by_test more false t h =
         elim h [
@@ -110,35 +110,21 @@ other_found (y ∷ ys) s id other = by_test (other_found ys s id other) (nat_eq 
         rw (ne_eqb s.id id other, ne_eqb y.id id (λ e. other (sym (eqb-true y.id s.id t) ∙ e))) refl
     by_test more false t = rw more refl
 
--- the sites differ as before where the new one has the old one's name
-pub put_distinct :
-    (ss : List Site) (s old : Site) → s.id ≡ old.id → s.name ≡ old.name → site_of ss s.id ≡ Some old
-    → AreDistinct ss → AreDistinct (put_site s ss)
-put_distinct [] s old id name e d = d
-put_distinct (y ∷ ys) s old id name e d = by_test (put_distinct ys s old id name) (nat_eq y.id s.id) refl e
+-- the sites differ as before
+pub put_distinct : (ss : List Site) (s : Site) → AreDistinct ss → AreDistinct (put_site s ss)
+put_distinct [] s d = d
+put_distinct (y ∷ ys) s d = by_test (put_distinct ys s d.1) (nat_eq y.id s.id) refl
   where
     by_test :
-        (site_of ys s.id ≡ Some old → AreDistinct ys → AreDistinct (put_site s ys))
-        → (b : Bool) → nat_eq y.id s.id ≡ b → (if b then Some y else site_of ys s.id) ≡ Some old
+        AreDistinct (put_site s ys) → (b : Bool) → nat_eq y.id s.id ≡ b
         → AreDistinct (if b then s ∷ ys else y ∷ put_site s ys)
-    by_test more true t f =
-        let same : y ≡ old = cc in (
-          λ x has. record {
-            id = λ e. (d.0 x has).id (e ∙ id ∙ ap (λ (z : Site). z.id) (sym same));
-            name = λ e. (d.0 x has).name (e ∙ name ∙ ap (λ (z : Site). z.name) (sym same));
-          },
-          d.1,
-        )
-    by_test more false t f = (
-      λ x has. elim (put_cases ys s x d.1 has) [
-        | inl e ↦ let is = d.0 old (found ys s.id old f).0 in
-            record {
-              id = λ same. is.id (sym id ∙ ap (λ (z : Site). z.id) (sym e) ∙ same);
-              name = λ same. is.name (sym name ∙ ap (λ (z : Site). z.name) (sym e) ∙ same);
-            }
-        | inr p ↦ d.0 x p.0
+    by_test more true t = (λ x has e. d.0 x has (e ∙ sym (eqb-true y.id s.id t)), d.1)
+    by_test more false t = (
+      λ x has same. elim (put_cases ys s x d.1 has) [
+        | inl e ↦ eqb-false y.id s.id t (sym same ∙ ap (λ (z : Site). z.id) e)
+        | inr p ↦ d.0 x p.0 same
       ],
-      more f d.1,
+      more,
     )
 
 -- there is one site of an id
@@ -190,14 +176,3 @@ clock_grows (y ∷ ys) s old r e up = by_test (clock_grows ys s old r) (nat_eq y
 
 pub clock_there : (ss : List Site) (s old : Site) → site_of ss s.id ≡ Some old → clock_of (put_site s ss) s.id ≡ s.clock
 clock_there ss s old e = clock_found (put_site s ss) s.id s (put_found ss s old e)
-
-pub clock_others : (ss : List Site) (s : Site) (r : ℕ) → s.id ≢ r → clock_of (put_site s ss) r ≡ clock_of ss r
-clock_others [] s r other = refl
-clock_others (y ∷ ys) s r other = by_test (clock_others ys s r other) (nat_eq y.id s.id) refl
-  where
-    by_test :
-        clock_of (put_site s ys) r ≡ clock_of ys r → (b : Bool) → nat_eq y.id s.id ≡ b
-        → clock_of (if b then s ∷ ys else y ∷ put_site s ys) r ≡ (if nat_eq y.id r then y.clock else clock_of ys r)
-    by_test more true t =
-        rw (ne_eqb s.id r other, ne_eqb y.id r (λ e. other (sym (eqb-true y.id s.id t) ∙ e))) refl
-    by_test more false t = rw more refl

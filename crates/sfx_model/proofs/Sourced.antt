@@ -9,10 +9,10 @@ use Rattle.sfx_model.specs.declared.mode.Mode.{Mode}
 use Rattle.sfx_model.specs.declared.mode.Mode.TheVariants.{Normal, Recover}
 use Rattle.sfx_model.specs.declared.session_end.SessionEnd.{SessionEnd}
 use Rattle.sfx_model.specs.World.{World, Site, WellFormed}
-use Rattle.sfx_model.specs.Events.{Event, Forget, Apply, Learn, Deed, Own, ForgetFrom, ApplyFrom, LearnFrom, Legal, AllLegal, after, after_all, site_of, event_of, after_deed, after_deeds, AreLegalDeeds}
+use Rattle.sfx_model.specs.Events.{Event, Forget, Apply, Learn, Deed, Own, ForgetFrom, ApplyFrom, LearnFrom, Legal, AllLegal, after, after_all, site_of, event_of, after_deed, after_deeds, AreLegalDeeds, seen_by}
 use Rattle.sfx_model.specs.Batch.{Batch, batch_from}
 use Rattle.sfx_model.specs.Clashes.{Plan}
-use Rattle.sfx_model.specs.Deeds.{forget_deeds, others_deeds, changed_first, task_deeds, range_deeds, deeds_or, go_deeds, batch_deeds, deeds_unless, deeds_from, seen_by, events_with}
+use Rattle.sfx_model.specs.Deeds.{forget_deeds, others_deeds, changed_first, task_deeds, range_deeds, deeds_or, go_deeds, batch_deeds, deeds_unless, deeds_from, events_with}
 use Rattle.sfx_model.specs.Entry.{Task, Changing, change_other, task_plan}
 use Rattle.sfx_model.specs.Knowing.{laid_known}
 use Rattle.sfx_model.specs.Members.{Member}

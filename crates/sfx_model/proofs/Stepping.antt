@@ -3,63 +3,20 @@ use Rattle.std.proofs.Common.{◌≡◌, ◌≢◌, ℕ, ◌≤◌, List, [], �
 use Rattle.sfx_ids.specs.declared.cut.Cut.{Cut}
 use Rattle.sfx_ids.specs.declared.item_id.ItemId.{ItemId}
 use Rattle.sfx_model.specs.Sets.{IsPart}
-use Rattle.sfx_model.specs.World.{Record, World, Site, Snapshot, WellFormed}
-use Rattle.sfx_model.specs.Events.{Event, Units, Widen, Join, Make, Clean, Forget, Apply, Learn, site_of, put_site, after, Legal, AllLegal, after_all, recorded, site_made, site_cleaned, site_forgot, site_applied, site_learned, made, cleaned, forgot, applied, learned, MakeLegal, CleanLegal, ApplyLegal, LearnLegal}
+use Rattle.sfx_model.specs.World.{World, Site, Snapshot, WellFormed}
+use Rattle.sfx_model.specs.Events.{Event, Units, Widen, Join, Make, Clean, Forget, Apply, Learn, site_of, after, Legal, AllLegal, after_all}
 use Rattle.sfx_item.specs.Item.{ItemState}
 use Rattle.sfx_model.specs.Members.{Shown, clock_of}
 use Rattle.sfx_model.specs.Replica.{IsOfOthers, RepresentsReplica}
-use Rattle.sfx_model.specs.Snapshots.{KeepsUnits, Carried}
+use Rattle.sfx_model.specs.Snapshots.{Carried}
 use Rattle.sfx_model.specs.States.{IsOf}
-use Rattle.sfx_model.proofs.Words.{Step}
-use Rattle.sfx_model.proofs.Sites.{found, other_found, clock_grows}
-use Rattle.sfx_model.proofs.Making.{make_step}
-use Rattle.sfx_model.proofs.Learning.{clean_step, forget_step, learn_step}
-use Rattle.sfx_model.proofs.Entering.{entry_records, entry_step}
+use Rattle.sfx_model.proofs.Sites.{other_found, clock_grows}
 use Rattle.sfx_model.proofs.Keeping.{event_keeps}
-use Rattle.sfx_model.proofs.Replicas.{at_site_holds, own_found, others_stand}
+use Rattle.sfx_model.proofs.Happening.{IsStep, new_is, new_there, one_step}
+use Rattle.sfx_model.proofs.Replicas.{own_found, others_stand}
 use Rattle.sfx_model.proofs.Staying.{carried_stays}
 
 -- ---- one event
-
--- An event of a replica is a step of its site, and the world after it has the new site and records.
-pub record IsStep (w x : World) (r : ℕ) : Type 0 where
-  pub old : Site
-  pub new : Site
-  pub records : List Record
-  pub at : site_of w.sites r ≡ Some old
-  pub step : Step w old new records
-  pub is : x ≡ record w { records = records; sites = put_site new w.sites }
-
-made_is_step :
-    (w : World) (r : ℕ) (old new : Site) (rs : List Record)
-    → site_of w.sites r ≡ Some old → Step w old new rs → IsStep w (record w { records = rs; sites = put_site new w.sites }) r
-made_is_step w r old new rs at step = record { old = old; new = new; records = rs; at = at; step = step; is = refl }
-
-pub one_step : (w : World) (e : Event) (r : ℕ) → WellFormed w → Legal w e → IsOf e r → IsStep w (after w e) r
-one_step w (Units units) r ok legal of = absurd of
-one_step w (Widen more) r ok legal of = absurd of
-one_step w (Join name id) r ok legal of = absurd of
-one_step w (Make id i v contents) r ok legal of =
-    at_site_holds w id (λ t. made w t i v contents) (λ t. MakeLegal w t i v contents) (λ x. IsStep w x r)
-    (λ t at ok_t. made_is_step w r t (site_made t i v (t.known i) contents) (recorded i v (t.known i) contents w.units w.records)
-    (subst (λ (n : ℕ). site_of w.sites n ≡ Some t) of at) (make_step w t i v contents ok (found w.sites id t at).0 ok_t)) legal
-one_step w (Clean id i v lo hi) r ok legal of =
-    at_site_holds w id (λ t. cleaned w t i v lo hi) (λ t. CleanLegal w t i v lo hi) (λ x. IsStep w x r)
-    (λ t at ok_t. made_is_step w r t (site_cleaned t i v lo hi) w.records
-    (subst (λ (n : ℕ). site_of w.sites n ≡ Some t) of at) (clean_step w t i v lo hi ok (found w.sites id t at).0 ok_t)) legal
-one_step w (Forget id snapshot lo hi) r ok legal of =
-    at_site_holds w id (λ t. forgot w t snapshot lo hi) (λ t. _) (λ x. IsStep w x r)
-    (λ t at ok_t. made_is_step w r t (site_forgot t snapshot lo hi) w.records
-    (subst (λ (n : ℕ). site_of w.sites n ≡ Some t) of at) (forget_step w t snapshot lo hi ok (found w.sites id t at).0)) legal
-one_step w (Apply id snapshot i v marks) r ok legal of =
-    at_site_holds w id (λ t. applied w t snapshot i v marks) (λ t. ApplyLegal w t snapshot i v marks) (λ x. IsStep w x r)
-    (λ t at ok_t. made_is_step w r t (site_applied w.units t snapshot i v marks) (entry_records w t snapshot i v marks)
-    (subst (λ (n : ℕ). site_of w.sites n ≡ Some t) of at)
-    (entry_step w t snapshot i v marks (record { ok = ok; there = (found w.sites id t at).0; legal = ok_t }))) legal
-one_step w (Learn id snapshot lo hi left) r ok legal of =
-    at_site_holds w id (λ t. learned w t snapshot lo hi left) (λ t. LearnLegal w t snapshot lo hi left) (λ x. IsStep w x r)
-    (λ t at ok_t. made_is_step w r t (site_learned t snapshot lo hi left) w.records
-    (subst (λ (n : ℕ). site_of w.sites n ≡ Some t) of at) (learn_step w t snapshot lo hi left ok (found w.sites id t at).0 ok_t)) legal
 
 -- The unit count stays.
 pub count_kept : (w x : World) (r : ℕ) → IsStep w x r → x.units ≡ w.units
@@ -69,15 +26,13 @@ count_kept w x r step = ap (λ (y : World). y.units) step.is
 pub site_kept : (w x : World) (r q : ℕ) → IsStep w x r → r ≢ q → site_of x.sites q ≡ site_of w.sites q
 site_kept w x r q step other =
     ap (λ (y : World). site_of y.sites q) step.is
-    ∙ other_found w.sites step.new q (λ same. other (sym (step.step.follows.id ∙ (found w.sites r step.old step.at).1) ∙ same))
+    ∙ other_found w.sites step.new q (λ same. other (sym (new_is w x r step) ∙ same))
 
 -- No clock falls.
 pub clocks_kept : (w x : World) (r q : ℕ) → IsStep w x r → clock_of w.sites q ≤ clock_of x.sites q
 clocks_kept w x r q step =
-    let there : site_of w.sites step.new.id ≡ Some step.old =
-    subst (λ (n : ℕ). site_of w.sites n ≡ Some step.old) (sym (step.step.follows.id ∙ (found w.sites r step.old step.at).1)) step.at in
     subst (λ (y : World). clock_of w.sites q ≤ clock_of y.sites q) (sym step.is)
-    (clock_grows w.sites step.new step.old q there step.step.follows.clock)
+    (clock_grows w.sites step.new step.old q (new_there w x r step) step.step.follows.clock)
 
 -- The replica's site knows what it knew.
 pub record Knows (w x : World) (r : ℕ) : Type 0 where
@@ -104,21 +59,11 @@ knows_on w x y r first second = record {
 pub knows_self : (w : World) (r : ℕ) → Knows w w r
 knows_self w r = record { grows = λ s at. (s, at, λ i u v has. has) }
 
--- An event of a replica leaves the unit count, and is of no other replica.
-pub of_keeps : (e : Event) (r : ℕ) → IsOf e r → KeepsUnits e
-of_keeps (Units units) r of = absurd of
-of_keeps (Widen more) r of = absurd of
-of_keeps (Join name id) r of = absurd of
-of_keeps (Make id i v contents) r of = tt
-of_keeps (Clean id i v lo hi) r of = tt
-of_keeps (Forget id snapshot lo hi) r of = tt
-of_keeps (Apply id snapshot i v marks) r of = tt
-of_keeps (Learn id snapshot lo hi left) r of = tt
-
+-- An event of a replica is of no other.
 pub of_others : (e : Event) (r q : ℕ) → IsOf e r → r ≢ q → IsOfOthers e q
 of_others (Units units) r q of other = absurd of
 of_others (Widen more) r q of other = absurd of
-of_others (Join name id) r q of other = absurd of
+of_others (Join id) r q of other = absurd of
 of_others (Make id i v contents) r q of other = λ same. other (sym of ∙ same)
 of_others (Clean id i v lo hi) r q of other = λ same. other (sym of ∙ same)
 of_others (Forget id snapshot lo hi) r q of other = λ same. other (sym of ∙ same)
@@ -187,7 +132,7 @@ event_leaves w e r ok legal of =
       knows = step_knows w (after w e) r step;
       clocks = λ q. clocks_kept w (after w e) r q step;
       others = λ q m other stands. others_stand w e q m ok legal (of_others e r q of other) stands;
-      carried = λ snapshot i made_with seen carried. carried_stays w e snapshot i made_with seen ok legal (of_keeps e r of) carried;
+      carried = λ snapshot i made_with seen carried. carried_stays w e snapshot i made_with seen ok legal (count_kept w (after w e) r step) carried;
     }
 
 pub all_leave : (w : World) (es : List Event) (r : ℕ) → WellFormed w → AllLegal w es → AllOf es r → Leaves w (after_all w es) r

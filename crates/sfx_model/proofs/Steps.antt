@@ -1,4 +1,4 @@
-use Rattle.std.proofs.Common.{◌≡◌, ℕ, ◌≤◌, inl, inr, ◌∙◌, sym, ap, refl, subst, Bool, true, false, if◌then◌else◌, nat_eq, List, Option, Some, None, IsSomeAnd, arith, le_refl}
+use Rattle.std.proofs.Common.{◌≡◌, ℕ, ◌≤◌, inl, inr, ◌∙◌, sym, ap, refl, subst, Bool, true, false, if◌then◌else◌, nat_eq, List, Some, arith, le_refl}
 use Rattle.std.proofs.lemmas.Bool.{eqb-true, eq-eqb, and_parts, cases_eq}
 use Rattle.sfx_ids.specs.declared.cut.Cut.{Cut}
 use Rattle.sfx_ids.specs.declared.cut.Cut.TheVariants.{At}
@@ -6,7 +6,7 @@ use Rattle.sfx_ids.specs.declared.item_id.ItemId.{ItemId}
 use Rattle.sfx_ids.specs.declared.version.Version.{Version}
 use Rattle.sfx_model.specs.Sets.{Has, IsPart}
 use Rattle.sfx_model.specs.World.{Record, Site, World, holding, IsMaker, IsOfWorld, IsSoundItem, WellFormed}
-use Rattle.sfx_model.specs.Events.{same_item, site_of, put_site, at_site, IsFresh}
+use Rattle.sfx_model.specs.Events.{same_item, site_of, put_site, IsFresh}
 use Rattle.sfx_model.proofs.Words.{Grows, Step}
 use Rattle.sfx_model.proofs.Sets.{same_self}
 use Rattle.sfx_model.proofs.Frame.{item_stays, made_stays}
@@ -34,7 +34,7 @@ step_keeps w old new rs at ok step =
     let there = found w.sites new.id old at in
     record {
       counted = λ s has. ok.counted old there.0;
-      distinct = put_distinct w.sites new old step.follows.id step.follows.name at ok.distinct;
+      distinct = put_distinct w.sites new ok.distinct;
       history = step.history;
       records = λ r has. elim (step.news r has) [
         | inl is ↦
@@ -163,14 +163,3 @@ items_more s i known more j u = by_test (same_item j i) refl
 -- the changed item
 pub at_item : {A : Type 0} (i : ItemId) (x : A) (other : ItemId → A) → (if same_item i i then x else other i) ≡ x
 at_item i x other = rw (same_item_self i) refl
-
--- an event at a site keeps the world well-formed where it does so at each site that it can be
-pub at_site_keeps :
-    (w : World) (r : ℕ) (change : Site → World) (Ok : Site → Type 0)
-    → ((s : Site) → site_of w.sites r ≡ Some s → Ok s → WellFormed (change s))
-    → IsSomeAnd (site_of w.sites r) Ok → WellFormed (at_site w (site_of w.sites r) change)
-at_site_keeps w r change Ok keeps legal = by_site (site_of w.sites r) refl legal
-  where
-    by_site : (o : Option Site) → site_of w.sites r ≡ o → IsSomeAnd o Ok → WellFormed (at_site w o change)
-    by_site None e ok = absurd ok
-    by_site (Some s) e ok = keeps s e ok

@@ -15,11 +15,11 @@ use Rattle.sfx_model.specs.declared.mode.Mode.{Mode}
 use Rattle.sfx_model.specs.declared.mode.Mode.TheVariants.{Normal, Recover}
 use Rattle.sfx_model.specs.Sets.{Has}
 use Rattle.sfx_model.specs.World.{World, Site, Snapshot, WellFormed}
-use Rattle.sfx_model.specs.Events.{Event, Deed, Apply, ApplyFrom, AllLegal, after, after_all}
+use Rattle.sfx_model.specs.Events.{Event, Deed, Apply, ApplyFrom, AllLegal, after, after_all, seen_by}
 use Rattle.sfx_model.specs.Acting.{IsOrderly, Supplies}
 use Rattle.sfx_model.specs.Batch.{Batch}
 use Rattle.sfx_model.specs.Clashes.{Plan, plan_of}
-use Rattle.sfx_model.specs.Deeds.{marks_in, others_deeds, forget_deeds, changed_first, task_deeds, seen_by, events_with}
+use Rattle.sfx_model.specs.Deeds.{marks_in, others_deeds, forget_deeds, changed_first, task_deeds, events_with}
 use Rattle.sfx_model.specs.Draft.{Draft, absent_draft}
 use Rattle.sfx_model.specs.Entry.{Task, Unlisted, Change, is_stamped, task_item, task_seen, task_draft, task_plan, unlisted_class, lacks, clock_after, state_after, left_from, changed_by, change_others, after_task}
 use Rattle.sfx_model.specs.Knowing.{laid_known}

@@ -203,13 +203,9 @@ sites_from units more (x ∷ xs) q has = elim has [
 pub sites_distinct : (units more : ℕ) (ss : List Site) → AreDistinct ss → AreDistinct (sites_widened units more ss)
 sites_distinct units more [] d = tt
 sites_distinct units more (x ∷ xs) d = (
-  λ q has.
+  λ q has e.
       let from = sites_from units more xs q has in
-      let other = d.0 from.0 from.1 in
-      record {
-        id = λ e. other.id (ap (λ (y : Site). y.id) (sym from.2) ∙ e);
-        name = λ e. other.name (ap (λ (y : Site). y.name) (sym from.2) ∙ e);
-      },
+      d.0 from.0 from.1 (ap (λ (y : Site). y.id) (sym from.2) ∙ e),
   sites_distinct units more xs d.1,
 )
 

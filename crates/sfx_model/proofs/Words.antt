@@ -19,9 +19,8 @@ pub record Grows (old new : List Record) : Type 0 where
   pub kept : (r : Record) → Has r old → Has r new
   pub was : (r : Record) (i : ItemId) (u : ℕ) (v : Version) → Has r new → IsAt r i u v → Made old i u v → Has r old
 
--- The same replica later: its name and id stay, and its clock does not fall.
+-- The same replica later: its id stays, and its clock does not fall.
 pub record Follows (old new : Site) : Type 0 where
-  pub name : new.name ≡ old.name
   pub id : new.id ≡ old.id
   pub clock : old.clock ≤ new.clock
 

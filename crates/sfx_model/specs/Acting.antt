@@ -21,11 +21,13 @@ use Rattle.sfx_model.specs.Draft.{Draft, is_left}
 use Rattle.sfx_model.specs.Entry.{Task, after_task, lacks, task_plan}
 use Rattle.sfx_model.specs.Events.{Event, AllLegal, after_all, Deed, AreLegalDeeds, after_deeds, is_in, site_of, IsKnownHere}
 use Rattle.sfx_model.specs.Knowing.{laid_known}
-use Rattle.sfx_model.specs.Members.{Community, Member, NamedMember, AreRising, RepresentsWorld, shown, vector_at}
+use Rattle.sfx_model.specs.Members.{Community, Member, NamedMember, AreRising, shown, vector_at}
 use Rattle.sfx_model.specs.Replica.{RepresentsReplica}
 use Rattle.sfx_model.specs.Results.{BacksForgotten}
 use Rattle.sfx_model.specs.Rules.{Rules}
 use Rattle.sfx_model.specs.Session.{after_range}
+use Rattle.sfx_model.specs.Standing.{StateStandsIn}
+use Rattle.sfx_model.specs.States.{IsDeedOf}
 use Rattle.sfx_model.specs.Units.{at_unit}
 use Rattle.sfx_model.specs.World.{Site, Snapshot, World, WellFormed}
 
@@ -104,21 +106,22 @@ KnowsForgotten units b m =
     (place : Cut) (u r : ℕ) → b.mode ≡ Normal → IsPlace place → is_between b.from b.to place ≡ true → u < units →
     tick_of (fvec b.forgotten place) r ≤ vector_at m place u r
 
--- The deeds may happen one after another in the world, and the world after them is well-formed; there the
--- source still represents its site, and so does the member at the site of the replica with this id, with its
--- lists in order.
+-- The deeds may happen one after another in the world, each at the site of the replica with this id, and the
+-- world after them is well-formed; there the source still represents its site, and so does the member at the
+-- site of that replica, with its lists in order.
 pub record DeedsActIn (w : World) (deeds : List Deed) (source : Member) (r : ℕ) (m : Member) : Type 0 where
   pub legal : AreLegalDeeds w deeds
+  pub own : (d : Deed) → Has d deeds → IsDeedOf d r
   pub well_formed : WellFormed (after_deeds w deeds)
   pub stays : RepresentsReplica (after_deeds w deeds) source.id (shown source)
   pub represents : RepresentsReplica (after_deeds w deeds) r (shown m)
   pub orderly : IsOrderly w.units m
 
--- The same of a state of all members.
+-- The same of a state: it stands in the world after the deeds.
 pub record DeedsContinue (w : World) (deeds : List Deed) (c : Community) : Type 0 where
   pub legal : AreLegalDeeds w deeds
   pub well_formed : WellFormed (after_deeds w deeds)
-  pub represents : RepresentsWorld (after_deeds w deeds) c
+  pub stands : StateStandsIn (after_deeds w deeds) c
 
 -- The member is one of the state's.
 abbrev pub IsMemberOf : Community → Member → Type 0

@@ -24,9 +24,9 @@ creation tick name = Make 10 (item_of tick 10) (version_of tick 10) (created_con
 -- Items get two units, the replica A joins and creates five items, and the replica B joins.
 abbrev pub before_cut : List Event
 before_cut =
-    Units 2 ∷ Join (codes "A") 10
+    Units 2 ∷ Join 10
     ∷ creation 1 (codes "n1") ∷ creation 2 (codes "n2") ∷ creation 3 (codes "n3") ∷ creation 4 (codes "n4") ∷ creation 5 (codes "n5")
-    ∷ Join (codes "B") 11 ∷ []
+    ∷ Join 11 ∷ []
 
 -- The world then.
 abbrev pub world_before : World

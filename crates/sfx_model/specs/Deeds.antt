@@ -16,7 +16,7 @@ use Rattle.sfx_model.specs.declared.mode.Mode.TheVariants.{Normal, Recover}
 use Rattle.sfx_model.specs.declared.session_end.SessionEnd.{SessionEnd}
 use Rattle.sfx_model.specs.Consistent.{live_name}
 use Rattle.sfx_model.specs.World.{Content, Written, Deleted, Snapshot}
-use Rattle.sfx_model.specs.Events.{UnitMark, Stays as Keeps, Taken as Takes, Stamped as Stamps, Left as Leaves, Gone as Drops, Event, Make, Forget, Apply, Learn, Deed, Own, ForgetFrom, ApplyFrom, LearnFrom}
+use Rattle.sfx_model.specs.Events.{UnitMark, Stays as Keeps, Taken as Takes, Stamped as Stamps, Left as Leaves, Gone as Drops, Event, Make, Deed, seen_by, Own, ForgetFrom, ApplyFrom, LearnFrom}
 use Rattle.sfx_item.specs.Item.{MemberItem}
 use Rattle.sfx_model.specs.Members.{Member, state_of}
 use Rattle.sfx_model.specs.States.{next_version, edited_contents, deleted_contents}
@@ -132,13 +132,6 @@ abbrev pub session_deeds : ℕ → Member → Member → Rules → ℕ → Optio
 session_deeds units source destination rules size cut =
     deeds_from (length source.items + 1) units source (mode_of units source.forgotten (laid_known units destination))
     rules size (set_out cut destination) Start
-
--- The event that a deed is with this snapshot.
-abbrev pub seen_by : Snapshot → Deed → Event
-seen_by snapshot (Own event) = event
-seen_by snapshot (ForgetFrom r source lo hi) = Forget r snapshot lo hi
-seen_by snapshot (ApplyFrom r source i v marks) = Apply r snapshot i v marks
-seen_by snapshot (LearnFrom r source lo hi left) = Learn r snapshot lo hi left
 
 -- The events that deeds are with one snapshot.
 abbrev pub events_with : Snapshot → List Deed → List Event

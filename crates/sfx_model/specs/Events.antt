@@ -31,7 +31,7 @@ pub data Event : Type 0 where
   -- items get so many more units, each with the history of unit 0
   Widen : (more : ℕ) → Event
   -- a replica joins
-  Join : (name : List ℕ) (id : ℕ) → Event
+  Join : (id : ℕ) → Event
   -- a replica makes a version of an item, with a content for some units: a creation, an edit, a deletion
   Make : (replica : ℕ) (item : ItemId) (version : Version) (contents : ℕ → Option Content) → Event
   -- a replica cleans a deleted item of this version away, and remembers that at the places of a range
@@ -69,9 +69,8 @@ with_item s i known present = record s {
 }
 
 -- A site that knows nothing, as of a replica that just joined.
-abbrev pub new_site : List ℕ → ℕ → Site
-new_site name id = record {
-  name = name;
+abbrev pub new_site : ℕ → Site
+new_site id = record {
   id = id;
   clock = 0;
   known = λ _ _. [];
@@ -226,8 +225,8 @@ abbrev pub learned : World → Site → Snapshot → Cut → Cut → (ItemId →
 learned w s snapshot lo hi left = record w { sites = put_site (site_learned s snapshot lo hi left) w.sites }
 
 -- Joining: one more replica, which knows nothing.
-abbrev pub joined : World → List ℕ → ℕ → World
-joined w name id = record w { sites = w.sites ++ new_site name id ∷ [] }
+abbrev pub joined : World → ℕ → World
+joined w id = record w { sites = w.sites ++ new_site id ∷ [] }
 
 -- The content of a new unit, by that of unit 0: a deletion stays one, else the unit is empty.
 abbrev pub widened_content : Content → Content
@@ -276,29 +275,31 @@ at_site w (Some s) change = change s
 abbrev pub after : World → Event → World
 after w (Units units) = record w { units = units }
 after w (Widen more) = widened w more
-after w (Join name id) = joined w name id
+after w (Join id) = joined w id
 after w (Make r i v contents) = at_site w (site_of w.sites r) (λ s. made w s i v contents)
 after w (Clean r i v lo hi) = at_site w (site_of w.sites r) (λ s. cleaned w s i v lo hi)
 after w (Forget r snapshot lo hi) = at_site w (site_of w.sites r) (λ s. forgot w s snapshot lo hi)
 after w (Apply r snapshot i v marks) = at_site w (site_of w.sites r) (λ s. applied w s snapshot i v marks)
 after w (Learn r snapshot lo hi left) = at_site w (site_of w.sites r) (λ s. learned w s snapshot lo hi left)
 
--- Units may be said once, before any replica joins.
+-- Units may be said before any replica joins, or said again as they are.
 pub record UnitsLegal (w : World) (units : ℕ) : Type 0 where
-  pub unsaid : w.units ≡ 0
-  pub empty : w.sites ≡ []
   pub some : 1 ≤ units
+  pub said : ((w.units ≡ 0) × (w.sites ≡ [])) ⊎ (w.units ≡ units)
 
 -- A community that has units may get more.
 pub record WidenLegal (w : World) (more : ℕ) : Type 0 where
   pub said : 1 ≤ w.units
   pub some : 1 ≤ more
 
--- A replica may join under a name and an id that no other has, once there are units.
-pub record JoinLegal (w : World) (name : List ℕ) (id : ℕ) : Type 0 where
+-- No replica of the world has this id.
+abbrev pub IsNewId : World → ℕ → Type 0
+IsNewId w id = (s : Site) → Has s w.sites → s.id ≢ id
+
+-- A replica may join under an id that no other has, once there are units.
+pub record JoinLegal (w : World) (id : ℕ) : Type 0 where
   pub said : 1 ≤ w.units
-  pub new_id : (s : Site) → Has s w.sites → s.id ≢ id
-  pub new_name : (s : Site) → Has s w.sites → s.name ≢ name
+  pub new_id : IsNewId w id
 
 -- The version is the next one of the site's replica, and its tick is no more than ticks go.
 pub record IsFresh (s : Site) (v : Version) : Type 0 where
@@ -418,7 +419,7 @@ pub record ApplyLegal (w : World) (s : Site) (snapshot : Snapshot) (i : ItemId) 
 abbrev pub Legal : World → Event → Type 0
 Legal w (Units units) = UnitsLegal w units
 Legal w (Widen more) = WidenLegal w more
-Legal w (Join name id) = JoinLegal w name id
+Legal w (Join id) = JoinLegal w id
 Legal w (Make r i v contents) = IsSomeAnd (site_of w.sites r) (λ s. MakeLegal w s i v contents)
 Legal w (Clean r i v lo hi) = IsSomeAnd (site_of w.sites r) (λ s. CleanLegal w s i v lo hi)
 Legal w (Forget r snapshot lo hi) = IsSomeAnd (site_of w.sites r) (λ s. IsSound w snapshot)
@@ -442,6 +443,13 @@ pub data Deed : Type 0 where
   ForgetFrom : (replica source : ℕ) (lo hi : Cut) → Deed
   ApplyFrom : (replica source : ℕ) (item : ItemId) (version : Version) (marks : ℕ → UnitMark) → Deed
   LearnFrom : (replica source : ℕ) (lo hi : Cut) (left : ItemId → ℕ → Bool) → Deed
+
+-- The event that the deed is with this snapshot.
+abbrev pub seen_by : Snapshot → Deed → Event
+seen_by snapshot (Own event) = event
+seen_by snapshot (ForgetFrom r source lo hi) = Forget r snapshot lo hi
+seen_by snapshot (ApplyFrom r source i v marks) = Apply r snapshot i v marks
+seen_by snapshot (LearnFrom r source lo hi left) = Learn r snapshot lo hi left
 
 -- The event that the deed is in this world, where the world has its source.
 abbrev pub event_of : World → Deed → Option Event

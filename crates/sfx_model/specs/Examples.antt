@@ -1,11 +1,12 @@
-use Rattle.std.specs.Prelude.{ℕ, zero, suc, Bool, false, ◌&&◌, if◌then◌else◌, nat_eq, List, [], ◌∷◌, Option, Some, None}
+use Rattle.std.specs.Prelude.{ℕ, Bool, false, ◌&&◌, if◌then◌else◌, nat_eq, List, [], ◌∷◌}
 use Rattle.sfx_ids.specs.declared.cut.Cut.TheVariants.{Start}
 use Rattle.sfx_ids.specs.declared.item_id.ItemId.{ItemId}
 use Rattle.sfx_ids.specs.declared.version.Version.{Version}
 use Rattle.sfx_model.specs.World.{Content, Written, Deleted, Record, World, empty_world}
 use Rattle.sfx_model.specs.Events.{Event, Units, Join, Make, same_item, after_all}
 use Rattle.sfx_item.specs.Item.{Live}
-use Rattle.sfx_model.specs.Members.{Community}
+use Rattle.sfx_model.specs.Members.{Member, Community}
+use Rattle.sfx_model.specs.States.{created_contents, edited_contents}
 
 -- The item of the examples: the first that the replica 1 created. It has one unit.
 abbrev pub example_item : ItemId
@@ -46,7 +47,6 @@ example_world rs clock known present forgotten = record {
   records = rs;
   sites =
       record {
-        name = 65 ∷ [];
         id = 1;
         clock = clock;
         known = λ i u. if same_item i example_item && nat_eq u 0 then known else [];
@@ -64,25 +64,13 @@ run_item = record { tick = 1; replica = 10 }
 abbrev pub run_version : ℕ → Version
 run_version tick = record { replica = 10; tick = tick }
 
--- The contents of a creation: a name and a value.
-abbrev pub name_and_value : List ℕ → List ℕ → ℕ → Option Content
-name_and_value name value zero = Some (Written name)
-name_and_value name value (suc zero) = Some (Written value)
-name_and_value name value (suc (suc u)) = None
-
--- The contents of an edit of the value.
-abbrev pub value_alone : List ℕ → ℕ → Option Content
-value_alone value zero = None
-value_alone value (suc zero) = Some (Written value)
-value_alone value (suc (suc u)) = None
-
--- A short run: items get two units, the replica A joins, it creates an item of the name `n1` and the value
+-- A short run: items get two units, the replica 10 joins, it creates an item of the name `n1` and the value
 -- `x`, and then sets the value to `y`.
 abbrev pub run_events : List Event
 run_events =
-    Units 2 ∷ Join (65 ∷ []) 10
-    ∷ Make 10 run_item (run_version 1) (name_and_value (110 ∷ 49 ∷ []) (120 ∷ []))
-    ∷ Make 10 run_item (run_version 2) (value_alone (121 ∷ []))
+    Units 2 ∷ Join 10
+    ∷ Make 10 run_item (run_version 1) (created_contents ((110 ∷ 49 ∷ []) ∷ (120 ∷ []) ∷ []))
+    ∷ Make 10 run_item (run_version 2) (edited_contents 1 (121 ∷ []))
     ∷ []
 
 -- The world after the run.
@@ -128,4 +116,22 @@ run_community = record {
         };
       }
       ∷ [];
+}
+
+-- A replica that has made nothing and knows nothing.
+abbrev pub fresh_member : ℕ → Member
+fresh_member id = record {
+  id = id;
+  clock = 0;
+  knowledge = (Start, record { base = []; others = [] }) ∷ [];
+  forgotten = (Start, []) ∷ [];
+  items = [];
+}
+
+-- A state with one id in both of its members.
+abbrev pub twins : Community
+twins = record {
+  units = 2;
+  members =
+      record { name = 65 ∷ []; member = fresh_member 10 } ∷ record { name = 66 ∷ []; member = fresh_member 10 } ∷ [];
 }

@@ -1,5 +1,5 @@
 -- What a member knows and has forgotten after it learned from another, as lists in their one form.
-use Rattle.std.specs.Prelude.{ℕ, max, if◌then◌else◌, nat_lt, List, [], ◌∷◌, ◌++◌, map, Option, Some, None}
+use Rattle.std.specs.Prelude.{ℕ, max, Bool, ◌||◌, if◌then◌else◌, nat_eq, nat_lt, List, [], ◌∷◌, ◌++◌, map, Option, Some, None}
 use Rattle.std.specs.List.{flat_map}
 use Rattle.sfx_ids.specs.declared.cut.Cut.{Cut}
 use Rattle.sfx_ids.specs.declared.cut.Cut.TheVariants.{Start, At, After, End}
@@ -66,6 +66,10 @@ row_clocks row = row.base ∷ map (λ o. o.1) row.others
 abbrev pub most_known : ℕ → Known → Forgets → ℕ
 most_known r known forgotten =
     max (most_in r (flat_map (λ p. row_clocks p.1) known)) (most_in r (map (λ p. p.1) forgotten))
+
+-- The member has this id, or it knows or has forgotten something that a replica with this id made.
+abbrev pub names_id : ℕ → Member → Bool
+names_id id m = nat_eq m.id id || nat_lt 0 (most_known id m.knowledge m.forgotten)
 
 -- That tick, where it is greater than the replica's clock: more is known of the replica than it made.
 abbrev pub ahead_of : Member → Known → Forgets → Option ℕ

@@ -5,6 +5,7 @@ pub mod Members
 pub mod Headline
 pub mod Results
 pub mod Replica
+pub mod Standing
 pub mod Agreement
 pub mod States
 pub mod Examples
@@ -25,5 +26,6 @@ pub mod Moments
 pub mod Session
 pub mod SessionExamples
 pub mod CutRun
+pub mod TwoStates
 pub mod Deeds
 pub mod Acting

@@ -132,22 +132,3 @@ pub record NamedMember : Type 0 where
 pub record Community : Type 0 where
   pub units : ℕ
   pub members : List NamedMember
-
--- The member has the name of the site and represents it, and its items are in order.
-pub record RepresentsNamed (w : World) (s : Site) (m : NamedMember) : Type 0 where
-  pub name : m.name ≡ s.name
-  pub represents : Represents w s (shown m.member)
-  pub rising : AreRising m.member.items
-
--- The members represent the sites, one by one and in order.
-abbrev pub RepresentsAll : World → List Site → List NamedMember → Type 0
-RepresentsAll w [] [] = Unit {0}
-RepresentsAll w [] (m ∷ ms) = ⊥
-RepresentsAll w (s ∷ ss) [] = ⊥
-RepresentsAll w (s ∷ ss) (m ∷ ms) = RepresentsNamed w s m × RepresentsAll w ss ms
-
--- The state represents the world: they agree in the unit count and in number, names and order of the
--- replicas, and each member represents its site.
-pub record RepresentsWorld (w : World) (c : Community) : Type 0 where
-  pub units : c.units ≡ w.units
-  pub members : RepresentsAll w w.sites c.members

@@ -14,7 +14,7 @@ RepresentsReplica w r m = (s : Site) × (site_of w.sites r ≡ Some s) × Repres
 abbrev pub IsOfOthers : Event → ℕ → Type 0
 IsOfOthers (Units units) r = Unit {0}
 IsOfOthers (Widen more) r = ⊥
-IsOfOthers (Join name id) r = Unit {0}
+IsOfOthers (Join id) r = Unit {0}
 IsOfOthers (Make maker i v contents) r = maker ≢ r
 IsOfOthers (Clean cleaner i v lo hi) r = cleaner ≢ r
 IsOfOthers (Forget forgetter snapshot lo hi) r = forgetter ≢ r

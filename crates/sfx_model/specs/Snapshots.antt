@@ -5,21 +5,9 @@ use Rattle.sfx_ids.specs.declared.item_id.ItemId.{ItemId}
 use Rattle.sfx_ids.specs.declared.version.Version.{Version}
 use Rattle.sfx_model.specs.Sets.{Has}
 use Rattle.sfx_model.specs.World.{World, Site, Snapshot, IsSound, IsContained, holding}
-use Rattle.sfx_model.specs.Events.{Event, Units, Widen, Join, Make, Clean, Forget, Apply, Learn}
 use Rattle.sfx_item.specs.Item.{version_at, ItemState}
 use Rattle.sfx_model.specs.Members.{Shown, Represents, ItemRepresents}
 use Rattle.sfx_model.specs.Results.{Backs}
-
--- The event leaves the unit count as it is.
-abbrev pub KeepsUnits : Event → Type 0
-KeepsUnits (Units units) = ⊥
-KeepsUnits (Widen more) = ⊥
-KeepsUnits (Join name id) = Unit {0}
-KeepsUnits (Make r i v contents) = Unit {0}
-KeepsUnits (Clean r i v lo hi) = Unit {0}
-KeepsUnits (Forget r snapshot lo hi) = Unit {0}
-KeepsUnits (Apply r snapshot i v marks) = Unit {0}
-KeepsUnits (Learn r snapshot lo hi left) = Unit {0}
 
 -- A snapshot that is carried through a world, as by a letter: it is sound, its made-with knowledge
 -- is exact at the item, and it has this state of the item.

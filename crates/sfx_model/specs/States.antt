@@ -5,33 +5,36 @@ use Rattle.sfx_ids.specs.declared.cut.Cut.{Cut}
 use Rattle.sfx_ids.specs.declared.item_id.ItemId.{ItemId}
 use Rattle.sfx_ids.specs.declared.version.Version.{Version}
 use Rattle.sfx_item.specs.declared.cell.Cell.{Cell}
-use Rattle.sfx_model.specs.Sets.{Has}
-use Rattle.sfx_model.specs.World.{Content, Written, Deleted, World, WellFormed}
-use Rattle.sfx_model.specs.Events.{Event, Units, Widen, Join, Make, Clean, Forget, Apply, Learn, after, Legal, same_item}
+use Rattle.sfx_model.specs.World.{Content, Written, Deleted, Snapshot, World, WellFormed}
+use Rattle.sfx_model.specs.Events.{Event, Units, Widen, Join, Make, Clean, Forget, Apply, Learn, Deed, seen_by, after, Legal, same_item}
 use Rattle.sfx_item.specs.Item.{ItemState, Live, MemberItem}
-use Rattle.sfx_model.specs.Members.{Member, NamedMember, Community, RepresentsWorld}
+use Rattle.sfx_model.specs.Members.{Member, NamedMember, Community}
+use Rattle.sfx_model.specs.Standing.{StateStandsIn}
 use Rattle.sfx_vector.specs.Clocks.{tick_of}
 use Rattle.sfx_segments.specs.Segments.{IsPlace}
 use Rattle.sfx_knowledge.specs.Knowledge.{tick_at}
 use Rattle.sfx_knowledge.specs.Forgotten.{fvec}
 
--- The event may happen in the world, the world after it is well-formed, and the state represents
--- it.
+-- The event may happen in the world, the world after it is well-formed, and the state stands there.
 pub record Continues (w : World) (event : Event) (c : Community) : Type 0 where
   pub legal : Legal w event
   pub well_formed : WellFormed (after w event)
-  pub represents : RepresentsWorld (after w event) c
+  pub stands : StateStandsIn (after w event) c
 
 -- The event is one that this replica does at its own site.
 abbrev pub IsOf : Event → ℕ → Type 0
 IsOf (Units units) r = ⊥
 IsOf (Widen more) r = ⊥
-IsOf (Join name id) r = ⊥
+IsOf (Join id) r = ⊥
 IsOf (Make maker i v contents) r = maker ≡ r
 IsOf (Clean cleaner i v lo hi) r = cleaner ≡ r
 IsOf (Forget forgetter snapshot lo hi) r = forgetter ≡ r
 IsOf (Apply receiver snapshot i v marks) r = receiver ≡ r
 IsOf (Learn learner snapshot lo hi left) r = learner ≡ r
+
+-- The deed is one that this replica does at its own site, whatever the snapshot of its source is.
+abbrev pub IsDeedOf : Deed → ℕ → Type 0
+IsDeedOf d r = (snapshot : Snapshot) → IsOf (seen_by snapshot d) r
 
 -- The state c becomes d as its member m becomes n: the name and the place in the list stay, and so
 -- does every other member.
@@ -138,7 +141,3 @@ pub record IsNewState (units id : ℕ) (m : Member) : Type 0 where
   pub knowledge : (place : Cut) (u r : ℕ) → IsPlace place → u < units → r ≢ id → tick_at m.knowledge place u r ≡ 0
   pub forgotten : (place : Cut) (r : ℕ) → IsPlace place → tick_of (fvec m.forgotten place) r ≡ 0
   pub items : m.items ≡ []
-
--- No member of the state has this name or this id.
-abbrev pub IsUntaken : List ℕ → ℕ → List NamedMember → Type 0
-IsUntaken name id ms = (m : NamedMember) → Has m ms → (m.name ≢ name) × (m.member.id ≢ id)

@@ -20,11 +20,10 @@ pub record Record : Type 0 where
   pub content : Content
   pub made_knowing : List Version
 
--- What the world tells of one replica: its name, id and clock; for each cell the versions known of it,
--- for each item whether it is present, and for each place the forgotten deletions as a clock vector,
--- which has a tick for each replica.
+-- What the world tells of one replica: its id and clock; for each cell the versions known of it, for each
+-- item whether it is present, and for each place the forgotten deletions as a clock vector, which has a
+-- tick for each replica.
 pub record Site : Type 0 where
-  pub name : List ℕ
   pub id : ℕ
   pub clock : ℕ
   pub known : ItemId → ℕ → List Version
@@ -153,21 +152,16 @@ pub record IsOfWorld (w : World) (r : Record) : Type 0 where
   -- the creation of the item was made at each unit
   pub creation : (u : ℕ) → u < w.units → Made w.records r.item u (creation_of r.item)
 
--- The two sites have different ids and different names.
-pub record IsOther (s x : Site) : Type 0 where
-  pub id : x.id ≢ s.id
-  pub name : x.name ≢ s.name
-
--- Any two of the sites have different ids and names.
+-- Any two of the sites have different ids.
 abbrev pub AreDistinct : List Site → Type 0
 AreDistinct [] = Unit {0}
-AreDistinct (s ∷ ss) = ((x : Site) → Has x ss → IsOther s x) × AreDistinct ss
+AreDistinct (s ∷ ss) = ((x : Site) → Has x ss → x.id ≢ s.id) × AreDistinct ss
 
 -- A well-formed world.
 pub record WellFormed (w : World) : Type 0 where
   -- a world with a replica has units
   pub counted : (s : Site) → Has s w.sites → 1 ≤ w.units
-  -- ids and names of replicas differ
+  -- ids of replicas differ
   pub distinct : AreDistinct w.sites
   -- each record could come next when it was made
   pub history : IsHistory w.records

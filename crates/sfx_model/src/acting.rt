@@ -11,14 +11,16 @@ ghost use Rattle.sfx_model.specs.Events.{AllLegal, AreLegalDeeds, after_all, sit
 ghost use Rattle.sfx_model.specs.Headline.{FactsHold, HaveEqualKnowledge};
 ghost use Rattle.sfx_model.specs.Knowing.{ahead_of, laid_known};
 ghost use Rattle.sfx_item.specs.Item.{ItemState, MemberItem};
-ghost use Rattle.sfx_model.specs.Members.{Community, Member, RepresentsWorld, shown, state_of};
+ghost use Rattle.sfx_model.specs.Members.{Community, Member, shown, state_of};
 ghost use Rattle.sfx_model.specs.Replica.{RepresentsReplica};
 ghost use Rattle.sfx_model.specs.Results.{BacksRange};
 ghost use Rattle.sfx_model.specs.Rules.{Rules};
 ghost use Rattle.sfx_model.specs.Session.{applied, session_of};
 ghost use Rattle.sfx_model.specs.SessionExamples.{five, item_of, version_of};
 ghost use Rattle.sfx_model.specs.Snapshots.{Carried};
+ghost use Rattle.sfx_model.specs.Standing.{IsWhole, StateStandsIn, together};
 ghost use Rattle.sfx_model.specs.States.{ChangesMember};
+ghost use Rattle.sfx_model.specs.TwoStates.{first_state, second_deeds, second_state, two_world};
 ghost use Rattle.sfx_model.specs.World.{IsSound, Snapshot, WellFormed, World, empty_world};
 ghost use Rattle.sfx_model.specs.declared.mode.Mode.TheVariants.{Recover};
 
@@ -51,8 +53,8 @@ pub fn entries_act()
         EntryActs w snapshot b rules m (Unlisted i) }
     ensures learned { (w : World) (snapshot : Snapshot) (b : Batch) (rules : Rules) (m : Member) (t : Task) →
         WellFormed w → RepresentsReplica w m.id (shown m) → EntryActs w snapshot b rules m t →
-        LearnsItem (after_all w (events_with snapshot (task_deeds w.units b t (task_plan w.units rules b m t) m))) m.id
-        snapshot (task_item t) (task_plan w.units rules b m t).draft }
+        LearnsItem (after_all w (events_with snapshot (task_deeds w.units b t (task_plan w.units rules b m t) m)))
+        m.id snapshot (task_item t) (task_plan w.units rules b m t).draft }
 {}
 
 /// What learning a batch's range does in every well-formed world, as a law: where each item of it is known
@@ -86,8 +88,8 @@ pub fn batches_act()
 /// every rule and however the session ends. It does nothing when called.
 ///
 /// `session`: afterwards the source still represents its site, and so does the destination as it is then,
-/// with its lists in order and live names that do not clash. `state`: a state of all members of which source
-/// and destination are two represents the world again.
+/// with its lists in order and live names that do not clash. `state`: a state that stands, of which source and
+/// destination are two members, stands again.
 pub fn sessions_act()
     ensures session { (w : World) (source m : Member) (rules : Rules) (size : ℕ) (cut : Option ℕ) →
         WellFormed w → source.id ≢ m.id →
@@ -96,7 +98,7 @@ pub fn sessions_act()
         DeedsActIn w (session_deeds w.units source m rules size cut) source m.id
         (session_of w.units source m rules size cut).course.member }
     ensures state { (w : World) (c d : Community) (source m : Member) (rules : Rules) (size : ℕ) (cut : Option ℕ) →
-        WellFormed w → RepresentsWorld w c → source.id ≢ m.id → IsMemberOf c source →
+        WellFormed w → StateStandsIn w c → source.id ≢ m.id → IsMemberOf c source →
         ChangesMember m (session_of w.units source m rules size cut).course.member c d →
         IsOrderly w.units source → IsOrderly w.units m → 1 ≤ size →
         DeedsContinue w (session_deeds w.units source m rules size cut) d }
@@ -118,10 +120,10 @@ pub fn none_is_ahead()
 /// `before`, `legal`: what happened before the session may happen, and so may the session's deeds.
 /// `entries`: they are the entries of the first two items, and no range is learned. `records`: a session
 /// makes no version, and the world's records are those of the creations, the latest first. `known`,
-/// `present`: of B's site, which knows of each of the five items what it has. `state`: both replicas
-/// represent the world. `facts`: the three facts hold of them. `exact`, `other`: B's knowledge contains the
-/// versions of the two items that it has and no others, while A's contains all. `differ`: so their knowledge
-/// is not equal.
+/// `present`: of B's site, which knows of each of the five items what it has. `state`: the state of both
+/// replicas stands in the world. `facts`: the three facts hold of them. `exact`, `other`: B's knowledge
+/// contains the versions of the two items that it has and no others, while A's contains all. `differ`: so
+/// their knowledge is not equal.
 pub fn cut_run()
     ensures before { AllLegal empty_world before_cut }
     ensures legal { AreLegalDeeds world_before cut_deeds }
@@ -132,9 +134,25 @@ pub fn cut_run()
     ensures known { known_names cut_world 11 ≡
         Some ((version_of 1 10 ∷ []) ∷ (version_of 2 10 ∷ []) ∷ [] ∷ [] ∷ [] ∷ []) }
     ensures present { present_items cut_world 11 ≡ Some (true ∷ true ∷ false ∷ false ∷ false ∷ []) }
-    ensures state { RepresentsWorld cut_world cut_community }
+    ensures state { StateStandsIn cut_world cut_community }
     ensures facts { FactsHold cut_world cut_community }
     ensures exact { contained cut_member ≡ true ∷ true ∷ false ∷ false ∷ false ∷ [] }
     ensures other { contained five ≡ true ∷ true ∷ true ∷ true ∷ true ∷ [] }
     ensures differ { ¬ HaveEqualKnowledge 2 (shown five) (shown cut_member) }
+{}
+
+/// Two states in one world, as on two machines, each with replicas, edits and a session of its own. It
+/// does nothing when called.
+///
+/// `legal`: what happens on the second machine may happen in the world of the first; the unit count is
+/// said again. `first` and `second`: both states stand in the world afterwards. `both` and `facts`: and so
+/// they do as one state, of which the three facts hold. `elsewhere`: the first state is not whole, since
+/// the replicas of the second are not in it.
+pub fn two_states()
+    ensures legal { AreLegalDeeds cut_world second_deeds }
+    ensures first { StateStandsIn two_world first_state }
+    ensures second { StateStandsIn two_world second_state }
+    ensures both { StateStandsIn two_world (together first_state second_state) }
+    ensures facts { FactsHold two_world (together first_state second_state) }
+    ensures elsewhere { ¬ IsWhole two_world first_state }
 {}

@@ -5,14 +5,14 @@
 pub use absent::Absent;
 pub use acting::{
     batches_act, consistent_members_are_orderly, cut_run, entries_act, none_is_ahead, ranges_act,
-    sessions_act,
+    sessions_act, two_states,
 };
 pub use apply_end::ApplyEnd;
 pub use clash_rule::ClashRule;
 pub use entry_kind::EntryKind;
 pub use keep::Keep;
 pub use mark::Mark;
-pub use members::{edits_act, knowledge_is_exact, members_stand, state_stands};
+pub use members::{edits_act, knowledge_is_exact, members_stand, state_stands, states_part};
 pub use mode::Mode;
 pub use results::results_follow;
 pub use session_end::SessionEnd;

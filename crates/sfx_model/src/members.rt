@@ -1,18 +1,25 @@
-ghost use Rattle.std.specs.Prelude.{◌≡◌, ℕ, ◌<◌, ◌≤◌, Bool, List, [], length, Option, Some};
+ghost use Rattle.std.specs.Prelude.{◌≡◌, ℕ, ◌<◌, ◌≤◌, Bool, List, [], length, true, Option, Some};
 ghost use Rattle.sfx_ids.specs.declared.cut.Cut.{Cut};
 ghost use Rattle.sfx_ids.specs.declared.item_id.ItemId.{ItemId};
 ghost use Rattle.sfx_ids.specs.declared.version.Version.{Version};
 ghost use Rattle.sfx_ids.specs.Tick.{max_tick};
 ghost use Rattle.sfx_item.specs.declared.cell.Cell.{Cell};
-ghost use Rattle.sfx_model.specs.Events.{Apply, Clean, Event, Forget, Join, Learn, Legal, Make, UnitMark, Units, after};
+ghost use Rattle.sfx_knowledge.specs.Forgotten.{fvec};
+ghost use Rattle.sfx_knowledge.specs.Knowledge.{tick_at};
+ghost use Rattle.sfx_model.specs.Events.{Apply, AreLegalDeeds, Clean, Deed, Event, Forget, IsNewId, Join, Learn, Legal, Make, UnitMark, Units, after, after_deeds};
+ghost use Rattle.sfx_model.specs.Acting.{IsOrderly};
+ghost use Rattle.sfx_model.specs.Knowing.{names_id};
 ghost use Rattle.sfx_model.specs.Headline.{DeletionsAreRespected, EqualKnowledgeMeansEqualItems, FactsHold, KnowledgeIsExact};
 ghost use Rattle.sfx_item.specs.Item.{Dead, ItemState, Live};
-ghost use Rattle.sfx_model.specs.Members.{AreRising, Community, ItemRepresents, Member, Represents, RepresentsWorld, Shown, shown, state_of};
+ghost use Rattle.sfx_model.specs.Members.{AreRising, Community, ItemRepresents, Member, NamedMember, Represents, Shown, shown, state_of};
 ghost use Rattle.sfx_model.specs.Replica.{ActsIn, IsNewMember, IsOfOthers, RepresentsReplica};
 ghost use Rattle.sfx_model.specs.Results.{Backs, BacksForgotten, BacksRange, CleanResult, EditResult, EntryResult, ForgetResult, LearnResult};
-ghost use Rattle.sfx_model.specs.Sets.{Has};
-ghost use Rattle.sfx_model.specs.States.{ChangesMember, Continues, IsNewState, IsOf, IsUntaken, Rises, cells_with, created_contents, deleted_contents, edited_contents, member_named, next_created, next_item, next_version, with_added, with_changed, with_item, with_state};
-ghost use Rattle.sfx_model.specs.World.{Content, Site, Snapshot, WellFormed, World, empty_world, holding};
+ghost use Rattle.sfx_model.specs.Sets.{Has, IsPart};
+ghost use Rattle.sfx_model.specs.Standing.{AreDisjoint, AreIdsApart, AreOfOthers, HasMember, HasNoOtherUnits, IsWhole, StateStandsIn, together};
+ghost use Rattle.sfx_model.specs.States.{ChangesMember, Continues, IsNewState, IsOf, Rises, cells_with, created_contents, deleted_contents, edited_contents, member_named, next_created, next_item, next_version, with_added, with_changed, with_item, with_state};
+ghost use Rattle.sfx_model.specs.World.{Content, Site, Snapshot, WellFormed, World, holding};
+ghost use Rattle.sfx_segments.specs.Segments.{IsPlace};
+ghost use Rattle.sfx_vector.specs.Clocks.{tick_of};
 
 /// The three facts, as a law of every well-formed world, for any number of replicas and units, and
 /// of every state that represents a site of it. Calling this does nothing.
@@ -20,7 +27,7 @@ ghost use Rattle.sfx_model.specs.World.{Content, Site, Snapshot, WellFormed, Wor
 /// `exact`: knowledge contains a made version of a unit exactly if the replica holds it or one made
 /// knowing it, cleaned deletions included. `same`: replicas of equal knowledge hold equal live
 /// items. `deletions`: each live unit's version was made knowing every deletion of that unit that
-/// the replica knows. `community`: all three, of all members of a state that represents the world.
+/// the replica knows. `community`: all three, of all members of a state that stands in the world.
 pub fn knowledge_is_exact()
     ensures exact { (w : World) (s : Site) (m : Shown) →
         WellFormed w → Has s w.sites → Represents w s m → KnowledgeIsExact w m }
@@ -30,7 +37,7 @@ pub fn knowledge_is_exact()
     ensures deletions { (w : World) (s : Site) (m : Shown) →
         WellFormed w → Has s w.sites → Represents w s m → DeletionsAreRespected w m }
     ensures community { (w : World) (c : Community) →
-        WellFormed w → RepresentsWorld w c → FactsHold w c }
+        WellFormed w → StateStandsIn w c → FactsHold w c }
 {}
 
 /// What each event does to the states that represent replicas of a well-formed world, as a law. It
@@ -47,9 +54,9 @@ pub fn members_stand()
     ensures others { (w : World) (event : Event) (r : ℕ) (m : Shown) →
         WellFormed w → Legal w event → IsOfOthers event r →
         RepresentsReplica w r m → RepresentsReplica (after w event) r m }
-    ensures joined { (w : World) (name : List ℕ) (id : ℕ) (m : Shown) →
-        WellFormed w → Legal w (Join name id) → IsNewMember w.units id m →
-        RepresentsReplica (after w (Join name id)) id m }
+    ensures joined { (w : World) (id : ℕ) (m : Shown) →
+        WellFormed w → Legal w (Join id) → IsNewMember w.units id m →
+        RepresentsReplica (after w (Join id)) id m }
     ensures edit { (w : World) (r : ℕ) (i : ItemId) (v : Version) (contents : ℕ → Option Content)
         (m n : Shown) →
         WellFormed w → Legal w (Make r i v contents) → RepresentsReplica w r m →
@@ -105,48 +112,77 @@ pub fn edits_act()
         ActsIn w (Make m.id i (next_version m) (deleted_contents w.units)) m.id n }
 {}
 
-/// What the lines of a script do to a state of all members that represents a well-formed world, as
-/// a law: the line's event may happen, the world after it is well-formed, and the state afterwards
-/// represents it. It does nothing when called.
+/// What the lines of a script do to a state that stands in a well-formed world, as a law: the line's
+/// event may happen, the world after it is well-formed, and the state afterwards stands there. The
+/// world may have other replicas, which are kept elsewhere. Nothing happens when this is called.
 ///
-/// `empty`: a program starts with no units and no members. `units`: it says the unit count, once.
-/// `joined`: a replica is added behind the others, under a new name and id. `created`, `edited` and
-/// `deleted`: the member m becomes n by its next version, with one more item, with a value written
-/// to one unit of a live item, or with a live item deleted; the other members stay. `acted`: any
-/// event that a replica does at its own site, where its new state is known to represent it.
-/// `named`: what putting a member in the place of the one with its name does.
+/// `empty`: a program starts with no units and no members, which stands in every world. `units`: it
+/// says the unit count, where the world has no other one. `joined`: a replica is added behind the
+/// others, under an id that is new in the world. `created`, `edited` and `deleted`: the member m
+/// becomes n by its next version, with one more item, with a value written to one unit of a live
+/// item, or with a live item deleted; the other members stay. `acted`: any event that a replica does
+/// at its own site, where its new state is known to represent it. `named`: what putting a member in
+/// the place of the one with its name does. `others`: deeds of replicas that are kept elsewhere, and
+/// that leave the unit count as it is, leave the state standing.
 pub fn state_stands()
-    ensures empty { RepresentsWorld empty_world (record { units = 0; members = [] }) }
+    ensures empty { (w : World) → StateStandsIn w (record { units = 0; members = [] }) }
     ensures units { (w : World) (c : Community) (units : ℕ) →
-        WellFormed w → RepresentsWorld w c → c.units ≡ 0 → c.members ≡ [] → 1 ≤ units →
-        Continues w (Units units) (record { units = units; members = [] }) }
+        WellFormed w → StateStandsIn w c → 1 ≤ units → HasNoOtherUnits w units →
+        Continues w (Units units) (record { units = units; members = c.members }) }
     ensures joined { (w : World) (c : Community) (name : List ℕ) (id : ℕ) (m : Member) →
-        WellFormed w → RepresentsWorld w c → 1 ≤ c.units → IsUntaken name id c.members →
-        IsNewState c.units id m →
-        Continues w (Join name id) (with_added name m c) }
+        WellFormed w → StateStandsIn w c → 1 ≤ c.units → IsNewId w id → IsNewState c.units id m →
+        Continues w (Join id) (with_added name m c) }
     ensures created { (w : World) (c d : Community) (m n : Member) (values : List (List ℕ)) →
-        WellFormed w → RepresentsWorld w c → ChangesMember m n c d → m.clock < max_tick →
+        WellFormed w → StateStandsIn w c → ChangesMember m n c d → m.clock < max_tick →
         length values ≡ c.units →
         Rises c.units m n (with_item (next_created m values) m.items) →
         Continues w (Make m.id (next_item m) (next_version m) (created_contents values)) d }
     ensures edited { (w : World) (c d : Community) (m n : Member) (i : ItemId) (unit : ℕ)
         (value : List ℕ) (cells : List Cell) →
-        WellFormed w → RepresentsWorld w c → ChangesMember m n c d → m.clock < max_tick →
+        WellFormed w → StateStandsIn w c → ChangesMember m n c d → m.clock < max_tick →
         unit < c.units →
         state_of m.items i ≡ Some (Live cells) →
         Rises c.units m n (with_state i (Live (cells_with m cells unit value)) m.items) →
         Continues w (Make m.id i (next_version m) (edited_contents unit value)) d }
     ensures deleted { (w : World) (c d : Community) (m n : Member) (i : ItemId)
         (cells : List Cell) →
-        WellFormed w → RepresentsWorld w c → ChangesMember m n c d → m.clock < max_tick →
+        WellFormed w → StateStandsIn w c → ChangesMember m n c d → m.clock < max_tick →
         state_of m.items i ≡ Some (Live cells) →
         Rises c.units m n (with_state i (Dead (next_version m)) m.items) →
         Continues w (Make m.id i (next_version m) (deleted_contents c.units)) d }
     ensures acted { (w : World) (event : Event) (c d : Community) (m n : Member) →
-        WellFormed w → RepresentsWorld w c → Legal w event → IsOf event m.id →
+        WellFormed w → StateStandsIn w c → Legal w event → IsOf event m.id →
         ChangesMember m n c d →
         AreRising n.items → RepresentsReplica (after w event) m.id (shown n) →
-        RepresentsWorld (after w event) d }
+        StateStandsIn (after w event) d }
     ensures named { (name : List ℕ) (m n : Member) (c : Community) →
         member_named name c.members ≡ Some m → ChangesMember m n c (with_changed name n c) }
+    ensures others { (w : World) (deeds : List Deed) (c : Community) →
+        WellFormed w → StateStandsIn w c → AreLegalDeeds w deeds → AreOfOthers deeds c →
+        (after_deeds w deeds).units ≡ w.units → StateStandsIn (after_deeds w deeds) c }
+{}
+
+/// The replicas of a community may be kept as several states, as on several machines. A law of states
+/// that stand in one world: it does nothing when called.
+///
+/// `split`: some members of a state, with its unit count, stand as a state of their own. `joined`: two
+/// states without a common id stand as one state. `known` and `forgotten`: in a whole state, which
+/// has a member for each replica of the world, each id that a member's knowledge or its forgotten
+/// deletions name, by a tick at some place, is that of a member. `named`: and so is each id that a member
+/// is computed to name, where its lists are in order.
+pub fn states_part()
+    ensures split { (w : World) (c d : Community) →
+        StateStandsIn w c → d.units ≡ c.units → IsPart d.members c.members → AreIdsApart d.members →
+        StateStandsIn w d }
+    ensures joined { (w : World) (c d : Community) →
+        StateStandsIn w c → StateStandsIn w d → AreDisjoint c d → StateStandsIn w (together c d) }
+    ensures known { (w : World) (c : Community) (m : NamedMember) (place : Cut) (u r : ℕ) →
+        StateStandsIn w c → IsWhole w c → Has m c.members → IsPlace place → u < c.units →
+        1 ≤ tick_at m.member.knowledge place u r → HasMember c r }
+    ensures forgotten { (w : World) (c : Community) (m : NamedMember) (place : Cut) (r : ℕ) →
+        StateStandsIn w c → IsWhole w c → Has m c.members → IsPlace place →
+        1 ≤ tick_of (fvec m.member.forgotten place) r → HasMember c r }
+    ensures named { (w : World) (c : Community) (m : NamedMember) (r : ℕ) →
+        StateStandsIn w c → IsWhole w c → Has m c.members → IsOrderly c.units m.member →
+        names_id r m.member ≡ true → HasMember c r }
 {}

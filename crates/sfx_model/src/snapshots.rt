@@ -7,7 +7,7 @@ ghost use Rattle.sfx_ids.specs.declared.version.Version.{Version};
 ghost use Rattle.sfx_model.specs.Events.{Gone, Event, IsFresh, IsKnownHere, Stays, Legal, Stamped, Taken, UnitLegal, after};
 ghost use Rattle.sfx_item.specs.Item.{ItemState};
 ghost use Rattle.sfx_model.specs.Members.{Shown, state_of};
-ghost use Rattle.sfx_model.specs.Snapshots.{AreWithin, Carried, HasContained, KeepsUnits, Meets};
+ghost use Rattle.sfx_model.specs.Snapshots.{AreWithin, Carried, HasContained, Meets};
 ghost use Rattle.sfx_model.specs.World.{Content, IsContained, Site, Snapshot, WellFormed, World};
 
 /// A snapshot that is carried through a world stays sound, and what comes with it stays exact,
@@ -15,7 +15,7 @@ ghost use Rattle.sfx_model.specs.World.{Content, IsContained, Site, Snapshot, We
 pub fn snapshots_stay()
     ensures { (w : World) (event : Event) (snapshot : Snapshot) (i : ItemId)
         (made_with : Cut → ℕ → ℕ → ℕ) (seen : Option ItemState) →
-        WellFormed w → Legal w event → KeepsUnits event →
+        WellFormed w → Legal w event → (after w event).units ≡ w.units →
         Carried w snapshot i made_with seen → Carried (after w event) snapshot i made_with seen }
 {}
 

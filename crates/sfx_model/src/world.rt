@@ -1,11 +1,11 @@
 ghost use Rattle.std.specs.Prelude.{◌≡◌, ℕ, ◌≤◌, List, [], ◌∷◌, true, false};
 ghost use Rattle.sfx_ids.specs.declared.item_id.ItemId.{ItemId};
 ghost use Rattle.sfx_model.specs.World.{Written, Site, Snapshot, World, WellFormed, empty_world};
-ghost use Rattle.sfx_model.specs.Events.{UnitMark, Joint, Event, Legal, after, AllLegal, after_all, Deed, AreLegalDeeds, after_deeds};
+ghost use Rattle.sfx_model.specs.Events.{UnitMark, Joint, Event, Units, Legal, after, AllLegal, after_all, Deed, AreLegalDeeds, after_deeds};
 ghost use Rattle.sfx_model.specs.Agreement.{AgreesAcrossUnits};
-ghost use Rattle.sfx_model.specs.Members.{RepresentsWorld};
+ghost use Rattle.sfx_model.specs.Standing.{StateStandsIn};
 ghost use Rattle.sfx_model.specs.Headline.{FactsHold};
-ghost use Rattle.sfx_model.specs.Examples.{example_version, example_record, edited, edited_again, deleted, example_world, run_events, run_world, run_records, run_community};
+ghost use Rattle.sfx_model.specs.Examples.{example_version, example_record, edited, edited_again, deleted, example_world, run_events, run_world, run_records, run_community, twins};
 
 /// The law of the world: it begins well-formed, and each event that may happen keeps it so, for every
 /// number of replicas and units. The law is said of one event, of a list of events and of a list of
@@ -29,7 +29,11 @@ pub fn marks_agree()
 /// Worlds that are well-formed, and worlds that are not, each for one cause: a version is known without
 /// what its maker knew; two versions were made without knowing each other, so that a present item has no
 /// latest version; an item is gone, and no forgotten deletion contains its versions; one version was
-/// made twice at one cell. Nothing happens when this function is called.
+/// made twice at one cell.
+///
+/// In a world of two units, `units` may be said again as it is (`again`), and with no other count
+/// (`recount`). A state with one id in both of its members stands nowhere (`twins`). Nothing happens
+/// when this function is called.
 pub fn examples()
     ensures edit { WellFormed (example_world edited 2 (example_version 2 ∷ example_version 1 ∷ []) true 0) }
     ensures cleanup { WellFormed (example_world deleted 2 (example_version 2 ∷ example_version 1 ∷ []) false 2) }
@@ -40,14 +44,17 @@ pub fn examples()
     ensures twice { ¬ WellFormed (example_world
         (example_record 1 (Written (98 ∷ [])) [] ∷ example_record 1 (Written (97 ∷ [])) [] ∷ []) 1
         (example_version 1 ∷ []) true 0) }
+    ensures again { Legal run_world (Units 2) }
+    ensures recount { ¬ Legal run_world (Units 3) }
+    ensures twins { (w : World) → ¬ StateStandsIn w twins }
 {}
 
-/// A short run from the empty world: its events may happen, they make these records, this state
-/// represents the world afterwards, and the three facts hold of it. Nothing happens when this function
-/// is called.
+/// A short run from the empty world: its events may happen, they make these records, this state stands
+/// in the world afterwards, and the three facts hold of it. Nothing happens when this function is
+/// called.
 pub fn short_run()
     ensures legal { AllLegal empty_world run_events }
     ensures records { run_world.records ≡ run_records }
-    ensures state { RepresentsWorld run_world run_community }
+    ensures state { StateStandsIn run_world run_community }
     ensures facts { FactsHold run_world run_community }
 {}

@@ -24,7 +24,13 @@ impl<const U: usize> Model for Commit<U> {
 
     ghost Value = { CommitData };
 
-    ghost view = { λ c. record { clock = c.clock; knowledge = c.knowledge; forgotten = c.forgotten; puts = c.puts.items; drops = c.drops.items } };
+    ghost view = { λ c. record {
+      clock = c.clock;
+      knowledge = c.knowledge;
+      forgotten = c.forgotten;
+      puts = c.puts.items;
+      drops = c.drops.items;
+    } };
 }
 
 impl<const U: usize> Commit<U> {

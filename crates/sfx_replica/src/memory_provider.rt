@@ -32,7 +32,12 @@ impl<const U: usize> Model for MemoryProvider<U> {
 
     ghost Value = { ProviderState };
 
-    ghost view = { λ p. record { member = p.replica; fails = p.calls.fails.items; calls = p.calls.made; faults = p.calls.faults } };
+    ghost view = { λ p. record {
+      member = p.replica;
+      fails = p.calls.fails.items;
+      calls = p.calls.made;
+      faults = p.calls.faults;
+    } };
 
     ghost invariant = { λ p. p.calls.fails.items ≡ [] → p.calls.faults ≡ 0 };
 }

@@ -44,6 +44,7 @@ impl<const U: usize> Replica<U> {
     ghost use Rattle.sfx_model.specs.Consistent.{IsConsistent};
     ghost use Rattle.sfx_model.specs.Events.{Make};
     ghost use Rattle.sfx_model.specs.Headline.{live_items};
+    ghost use Rattle.sfx_model.specs.Knowing.{most_known, names_id};
     ghost use Rattle.sfx_model.specs.Members.{contains, shown, state_of, vector_at};
     ghost use Rattle.sfx_model.specs.Replica.{ActsIn, RepresentsReplica};
     ghost use Rattle.sfx_model.specs.States.{created_contents, edited_contents, next_created, next_item, next_version};
@@ -157,6 +158,21 @@ impl<const U: usize> Replica<U> {
         }
     }
 
+    /// Whether this is the replica's id, or one that it names: it knows or has forgotten something that a
+    /// replica with this id made.
+    pub fn names(&self, id: &ReplicaId) -> bool
+        ensures { result ≡ names_id id.now self.now }
+    {
+        self.id == *id || self.most_known(id) > 0
+    }
+
+    /// The greatest tick that the replica knows or has forgotten of the replica with this id.
+    fn most_known(&self, id: &ReplicaId) -> u64
+        ensures { result ≡ most_known id.now self.now.knowledge self.now.forgotten }
+    {
+        self.knowledge.most(id).max(self.forgotten.vector().get(id))
+    }
+
     /// The items that the replica holds, tombstones included, in order of their ids.
     pub fn items(&self) -> &[Item<U>]
         ensures { result.now ≡ self.now.items }
@@ -256,7 +272,8 @@ impl<const U: usize> Replica<U> {
         ensures err { OnErr result (self.new ≡ self.old) }
         ensures acts { OnOk result ((w : World) → WellFormed w → w.units ≡ U →
             RepresentsReplica w self.old.id (shown self.old) →
-            ActsIn w (Make self.old.id id.now (next_version self.old) (edited_contents k value)) self.old.id self.new) }
+            ActsIn w (Make self.old.id id.now (next_version self.old) (edited_contents k value))
+            self.old.id self.new) }
     {
         let (place, unit) = target(self.items.as_slice(), id, k)?;
         let cell = self.next_cell(id, k, value)?;
@@ -310,7 +327,8 @@ impl<const U: usize> Replica<U> {
     /// The cell that is written next to the unit of the item.
     fn next_cell(&self, id: &ItemId, k: usize, value: Value) -> Result<Cell, EditFault>
         ensures refused { Refuses is_refusal result
-            (option_or (if nat_eq k 0 then name_refusal self.now (Some id.now) value else None) (full_clock self.now)) }
+            (option_or (if nat_eq k 0 then name_refusal self.now (Some id.now) value else None)
+            (full_clock self.now)) }
         ensures value { IfOk result (λ cell. cell ≡ (record { version = next_version self.now; value = value })) }
     {
         self.check_value(id, k, &value)?;

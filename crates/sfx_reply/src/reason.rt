@@ -24,7 +24,7 @@ pub enum Reason {
     NoUnits,
     /// A replica has the name.
     NameTaken,
-    /// A replica has the id.
+    /// A replica here has the id, or has heard of one that has.
     IdTaken,
     /// No replica has this name.
     NoReplica(Text),

@@ -2,9 +2,8 @@ ghost use Rattle.std.specs.Prelude.{◌≡◌, ◌<◌, ◌≤◌, ◌⊎◌, �
 ghost use Rattle.sfx_outside.specs.Fault.{HasRisen};
 ghost use Rattle.sfx_outside.specs.Sink.{Adds, AddsFront};
 ghost use Rattle.sfx_outside.specs.Source.{IsAtEnd};
-ghost use Rattle.sfx_model.specs.Members.{RepresentsWorld};
 ghost use Rattle.sfx_model.specs.World.{World, WellFormed};
-ghost use Rattle.sfx_community.specs.History.{AreNotAhead, HasHappened};
+ghost use Rattle.sfx_community.specs.History.{AllFit, AreNotAhead, HasHappened, IsAllOf};
 ghost use Rattle.sfx_run.specs.Run.{has_refusal, is_play, played, played_text};
 ghost use Rattle.sfx_community.specs.State.{community_of};
 ghost use Rattle.sfx_community.specs.Turn.{empty_state};
@@ -35,12 +34,18 @@ pub fn run<A: Source, B: Sink>(
     ensures done { result ≡ Status.Done →
         IfSome (A.left input.old) (λ script. has_refusal (played script).replies ≡ false) }
 
-    // What the script does happens in every world that the state at the start represents.
+    // What the script does happens in every well-formed world which it fits: one with no unit count but that
+    // of the script, and with no replica of an id that the script adds. All replicas there are kept elsewhere.
     ensures history { IsAnswered result → IfSome (A.left input.old) (λ script. (w : World) →
-        WellFormed w → RepresentsWorld w (community_of empty_state) → HasHappened w empty_state (played script)) }
+        WellFormed w → AllFit w (played script).deeds → HasHappened w empty_state (played script)) }
+
+    // It fits each world of which the state at the start is all: one with no replica and no unit count yet.
+    ensures whole { IsAnswered result → IfSome (A.left input.old) (λ script. (w : World) →
+        WellFormed w → IsAllOf w (community_of empty_state) → AllFit w (played script).deeds) }
 
     // No session of a script is refused because its source knows more of the destination than that made.
-    ensures not_ahead { IsAnswered result → IfSome (A.left input.old) (λ script. AreNotAhead (played script).replies) }
+    ensures not_ahead { IsAnswered result →
+        IfSome (A.left input.old) (λ script. AreNotAhead (played script).replies) }
 
     // When each other end comes.
     ensures usage { (result ≡ Status.Usage) ↔ (is_play (map string_bytes words.now.items) ≡ false) }
@@ -60,7 +65,8 @@ pub fn run<A: Source, B: Sink>(
     ensures complete { is_play (map string_bytes words.now.items) ≡ true →
         (HasRisen (A.faults input.old) (A.faults input.new) → ⊥) →
         (HasRisen (B.faults out.old) (B.faults out.new) → ⊥) →
-        IfSome (A.left input.old) (λ script. length script ≤ MAX_INPUT → IsAnswered result ⊎ (result ≡ Status.Memory)) }
+        IfSome (A.left input.old) (λ script.
+        length script ≤ MAX_INPUT → IsAnswered result ⊎ (result ≡ Status.Memory)) }
     ensures refuses_long { is_play (map string_bytes words.now.items) ≡ true →
         (HasRisen (A.faults input.old) (A.faults input.new) → ⊥) →
         IfSome (A.left input.old) (λ script.

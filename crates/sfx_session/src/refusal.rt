@@ -31,10 +31,12 @@ pub(crate) fn refuse<const U: usize, P: Provider<U>, Q: Provider<U>>(
         IfOk result (λ mode. mode ≡ mode_of U (P.state source.old).forgotten known) }
     ensures normal { IfOk result (λ mode. mode ≡ Normal) }
     ensures refused { Refuses is_refusal result (refusal_of U (P.state source.old) (Q.state destination.old)) }
-    ensures consistent { OnOk result (IsConsistent U (P.state source.old) × IsConsistent U (Q.state destination.old)) }
+    ensures consistent { OnOk result
+        (IsConsistent U (P.state source.old) × IsConsistent U (Q.state destination.old)) }
     ensures not_ahead { (w : World) → TakePart w U (P.state source.old) (Q.state destination.old) →
         IsNever is_ahead result }
-    ensures same { IsErrOf result SessionFault.SameReplica ↔ ((P.state source.old).id ≡ (Q.state destination.old).id) }
+    ensures same { IsErrOf result SessionFault.SameReplica ↔
+        ((P.state source.old).id ≡ (Q.state destination.old).id) }
     ensures source { Rests P.state P.kept P.settled P.came source.old source.new }
     ensures destination { Rests Q.state Q.kept Q.settled Q.came destination.old destination.new }
     ensures source_cause { HasCause blames_source (P.faults source.old) (P.faults source.new) result }
@@ -66,7 +68,8 @@ fn bearing<const U: usize, P: Provider<U>, Q: Provider<U>>(
     ensures clock { IfOk result (λ b. b.1 ≡ (Q.state destination.old).clock) }
     ensures mode { let known = laid_known U (Q.state destination.old) in
         IfOk result (λ b. b.2 ≡ mode_of U (P.state source.old).forgotten known) }
-    ensures consistent { OnOk result (IsConsistent U (P.state source.old) × IsConsistent U (Q.state destination.old)) }
+    ensures consistent { OnOk result
+        (IsConsistent U (P.state source.old) × IsConsistent U (Q.state destination.old)) }
     ensures no_refusal { IsNever is_refusal result }
     ensures source { Rests P.state P.kept P.settled P.came source.old source.new }
     ensures destination { Rests Q.state Q.kept Q.settled Q.came destination.old destination.new }

@@ -75,7 +75,8 @@ pub fn session<const U: usize, P: Provider<U>, Q: Provider<U>, M: Merger>(
     ensures done { let r = rules_view M.meaning rules.now in
         let whole = session_of U (P.state source.old) (Q.state destination.old) r size None in
         cut ≡ None → IfOk result (λ report. report.end ≡ whole.end) }
-    ensures same { IsErrOf result SessionFault.SameReplica ↔ ((P.state source.old).id ≡ (Q.state destination.old).id) }
+    ensures same { IsErrOf result SessionFault.SameReplica ↔
+        ((P.state source.old).id ≡ (Q.state destination.old).id) }
     ensures refused { Refuses is_refusal result (refusal_of U (P.state source.old) (Q.state destination.old)) }
     ensures unchanged { let rests = Rests Q.state Q.kept Q.settled Q.came destination.old destination.new in
         OnFault is_refusal result rests }
@@ -136,7 +137,8 @@ fn one_batch<const U: usize, P: Provider<U>, Q: Provider<U>, M: Merger>(
         IfOk result (λ end. end ≡ next_arrival U (P.state source.old) mode r size
         (Q.state destination.old) travel.old) }
     ensures travel { let r = rules_view M.meaning rules.now in
-        OnOk result (travel.new ≡ next_travel U (P.state source.old) mode r size (Q.state destination.old) travel.old) }
+        OnOk result (travel.new ≡
+        next_travel U (P.state source.old) mode r size (Q.state destination.old) travel.old) }
     ensures arrives { let r = rules_view M.meaning rules.now in
         let o = due_outcome U (P.state source.old) mode r size (Q.state destination.old) travel.old in
         OnOk result (Arrives Q.state Q.kept Q.settled Q.came destination.old destination.new

@@ -1,4 +1,4 @@
-use Rattle.std.proofs.Common.{◌≡◌, None, Some, ap, ◌∙◌}
+use Rattle.std.proofs.Common.{◌≡◌, None, Some, ap}
 use Rattle.std.proofs.lemmas.Result.{err_from_is_err_and}
 use Rattle.sfx_provider.specs.Answer.{When}
 use Rattle.sfx_session.specs.Fault.{is_refusal}

@@ -37,10 +37,10 @@ unfolding is_clash batch_from class_of absent_class_of task_plan change_others c
 returns-clause-present c = refl
 
 pub returns-clause-state : goal.returns-clause-state
-returns-clause-state c = cut_acts.represents
+returns-clause-state c = cut_acts.stands
 
 pub returns-clause-facts : goal.returns-clause-facts
-returns-clause-facts c = facts_hold cut_world cut_community cut_acts.well_formed cut_acts.represents
+returns-clause-facts c = facts_hold cut_world cut_community cut_acts.well_formed cut_acts.stands
 
 pub returns-clause-exact : goal.returns-clause-exact
 unfolding is_clash batch_from class_of absent_class_of task_plan change_others changed_by after_task entry_of renamed first_free floor_char_boundary digits tasks_of after_range go session_from session_of

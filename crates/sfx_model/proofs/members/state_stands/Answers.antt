@@ -1,4 +1,4 @@
-use Rattle.sfx_model.proofs.Communities.{event_state, changes_named}
+use Rattle.sfx_model.proofs.Communities.{event_state, changes_named, others_state}
 use Rattle.sfx_model.proofs.Turns.{empty_state, units_state, join_state, create_turn, edit_turn, delete_turn}
 use Rattle.sfx_model.proofs.members.state_stands.Goals as goal
 
@@ -25,3 +25,6 @@ returns-clause-acted c = event_state
 
 pub returns-clause-named : goal.returns-clause-named
 returns-clause-named c name m n d is = changes_named name m n d.units d.members is
+
+pub returns-clause-others : goal.returns-clause-others
+returns-clause-others c = others_state

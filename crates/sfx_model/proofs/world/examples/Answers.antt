@@ -1,4 +1,5 @@
-use Rattle.sfx_model.proofs.Refusals.{gap_refused, fork_refused, lost_refused, twice_refused}
+use Rattle.sfx_model.proofs.Refusals.{gap_refused, fork_refused, lost_refused, twice_refused, other_count}
+use Rattle.std.proofs.Common.{inl, inr, refl, lit≤}
 use Rattle.sfx_model.proofs.Accepted.{edit_accepted, cleanup_accepted}
 use Rattle.sfx_model.proofs.world.examples.Goals as goal
 
@@ -19,3 +20,12 @@ returns-clause-lost c = lost_refused
 
 pub returns-clause-twice : goal.returns-clause-twice
 returns-clause-twice c = twice_refused
+
+pub returns-clause-again : goal.returns-clause-again
+returns-clause-again c = record { some = lit≤ tt; said = inr refl }
+
+pub returns-clause-recount : goal.returns-clause-recount
+returns-clause-recount c legal = other_count legal
+
+pub returns-clause-twins : goal.returns-clause-twins
+returns-clause-twins c w stands = stands.apart.0 _ (inl refl) refl

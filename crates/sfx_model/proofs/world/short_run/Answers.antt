@@ -1,5 +1,5 @@
 use Rattle.sfx_model.proofs.Headline.{facts_hold}
-use Rattle.sfx_model.proofs.Run.{run_legal, run_records_are, run_represents, run_well_formed}
+use Rattle.sfx_model.proofs.Run.{run_legal, run_records_are, run_stands, run_well_formed}
 use Rattle.sfx_model.specs.Examples.{run_community, run_world}
 use Rattle.sfx_model.proofs.world.short_run.Goals as goal
 
@@ -10,7 +10,7 @@ pub returns-clause-records : goal.returns-clause-records
 returns-clause-records c = run_records_are
 
 pub returns-clause-state : goal.returns-clause-state
-returns-clause-state c = run_represents
+returns-clause-state c = run_stands
 
 pub returns-clause-facts : goal.returns-clause-facts
-returns-clause-facts c = facts_hold run_world run_community run_well_formed run_represents
+returns-clause-facts c = facts_hold run_world run_community run_well_formed run_stands

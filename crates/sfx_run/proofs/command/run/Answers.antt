@@ -1,11 +1,10 @@
 use Rattle.std.proofs.Common.{◌≡◌, ◌<◌, ◌≤◌, ◌⊎◌, ◌∙◌, true, false, true≢false, inl, inr, length, refl, sym, arith}
 use Rattle.sfx_outside.specs.Sink.{Adds, AddsFront}
-use Rattle.sfx_model.specs.Members.{RepresentsWorld}
 use Rattle.sfx_model.specs.World.{World, WellFormed}
-use Rattle.sfx_run.proofs.Played.{played_happens, played_not_ahead}
+use Rattle.sfx_run.proofs.Played.{played_fits, played_happens, played_not_ahead}
 use Rattle.sfx_run.proofs.Running.{answered_or_memory, has_begun, neither, told, told_anyhow, unanswered, unlike}
 use Rattle.sfx_run.specs.declared.status.Status.TheVariants.{Memory, SinkFault, SourceFault, TooLong, Usage}
-use Rattle.sfx_community.specs.History.{AreNotAhead, HasHappened}
+use Rattle.sfx_community.specs.History.{AllFit, AreNotAhead, HasHappened, IsAllOf}
 use Rattle.sfx_run.specs.Run.{has_refusal, played, played_text}
 use Rattle.sfx_run.specs.Status.{IsAnswered}
 use Rattle.sfx_community.specs.State.{community_of}
@@ -32,8 +31,13 @@ returns-clause-done g c is =
 
 pub returns-clause-history : goal.returns-clause-history
 returns-clause-history g c is =
-    told_anyhow (λ s. (w : World) → WellFormed w → RepresentsWorld w (community_of empty_state) → HasHappened w empty_state (played s)) _
-    (λ s w ok rep. played_happens w s ok rep)
+    told_anyhow (λ s. (w : World) → WellFormed w → AllFit w (played s).deeds → HasHappened w empty_state (played s)) _
+    (λ s w ok fit. played_happens w s ok fit)
+
+pub returns-clause-whole : goal.returns-clause-whole
+returns-clause-whole g c is =
+    told_anyhow (λ s. (w : World) → WellFormed w → IsAllOf w (community_of empty_state) → AllFit w (played s).deeds) _
+    (λ s w ok all. played_fits w s ok all)
 
 pub returns-clause-not_ahead : goal.returns-clause-not_ahead
 returns-clause-not_ahead g c is = told_anyhow (λ s. AreNotAhead (played s).replies) _ played_not_ahead

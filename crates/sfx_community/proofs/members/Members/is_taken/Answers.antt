@@ -1,20 +1,20 @@
 use Rattle.std.proofs.Common.{◌<◌, ◌||◌, ◌+◌, List, length, ap, sym, ◌∙◌, arith, drop}
-use Rattle.sfx_community.specs.State.{KeptMember, has_id}
+use Rattle.sfx_community.specs.State.{KeptMember, is_taken}
 use Rattle.sfx_community.proofs.Entries.{entries_len, id_asked}
-use Rattle.sfx_community.proofs.members.Members.has_id.Goals as goal
+use Rattle.sfx_community.proofs.members.Members.is_taken.Goals as goal
 
-pub returns-then-is_id_at : goal.returns-then-is_id_at
-returns-then-is_id_at g c =
+pub returns-then-names_at : goal.returns-then-names_at
+returns-then-names_at g c =
     let members = ap (λ (ms : List KeptMember). length ms) (sym c.self.view_is) ∙ entries_len c.self.inside.kept.entries in
     let within : c.loop-i.i < length c.args.self.now = let less = c.loop-i-test.true in let len = c.len-i-end.ensures.len in omega (arith, less, len, members) in
     let asked = id_asked c.args.id.now c.args.self.now c.loop-i.i within in
-    let found = sym c.is_id_at.ensures ∙ c.if-is_id_at.true in
-    sym (c.loop-i.invariant ∙ asked ∙ ap (λ b. b || has_id c.args.id.now (drop (c.loop-i.i + 1) c.args.self.now)) found)
+    let found = sym c.names_at.ensures ∙ c.if-names_at.true in
+    sym (c.loop-i.invariant ∙ asked ∙ ap (λ b. b || is_taken c.args.id.now (drop (c.loop-i.i + 1) c.args.self.now)) found)
 
 pub loop-i-preserved : goal.loop-i-preserved
 loop-i-preserved g c =
     let members = ap (λ (ms : List KeptMember). length ms) (sym c.self.view_is) ∙ entries_len c.self.inside.kept.entries in
     let within : c.loop-i.i < length c.args.self.now = let less = c.loop-i-test.true in let len = c.len-i-end.ensures.len in omega (arith, less, len, members) in
     let asked = id_asked c.args.id.now c.args.self.now c.loop-i.i within in
-    let other = sym c.is_id_at.ensures ∙ c.if-is_id_at.false in
-    c.loop-i.invariant ∙ asked ∙ ap (λ b. b || has_id c.args.id.now (drop (c.loop-i.i + 1) c.args.self.now)) other
+    let other = sym c.names_at.ensures ∙ c.if-names_at.false in
+    c.loop-i.invariant ∙ asked ∙ ap (λ b. b || is_taken c.args.id.now (drop (c.loop-i.i + 1) c.args.self.now)) other
