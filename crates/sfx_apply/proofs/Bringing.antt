@@ -1,9 +1,9 @@
 -- What a batch does in a world, and that no replica of it is ahead, by the laws of the model.
-use Rattle.std.proofs.Common.{◌≡◌, ℕ, Option, Some, None, Err, sym, ◌∙◌, ap, subst}
+use Rattle.std.proofs.Common.{◌≡◌, ℕ, ◌≤◌, Option, Some, None, Err, sym, ◌∙◌, ap, subst}
 use Rattle.std.specs.Option.{option_map}
 use Rattle.sfx_knowledge.specs.Forgotten.{Forgets}
 use Rattle.sfx_knowledge.specs.Knowledge.{Known}
-use Rattle.sfx_model.specs.Acting.{Brings, DeedsActIn, IsDue, IsOrderly, KnowsForgotten}
+use Rattle.sfx_model.specs.Acting.{Brings, DeedsActIn, IsDue, IsInForm, IsOrderly, KnowsForgotten}
 use Rattle.sfx_model.specs.Batch.{Batch}
 use Rattle.sfx_model.specs.Deeds.{batch_deeds}
 use Rattle.sfx_model.specs.Knowing.{ahead_of, laid_known}
@@ -17,7 +17,8 @@ use Rattle.sfx_apply.specs.declared.apply_fault.ApplyFault.{ApplyFault}
 use Rattle.sfx_apply.specs.declared.apply_fault.ApplyFault.TheVariants.{Ahead, Provider, Memory}
 use Rattle.sfx_model.proofs.Concluding.{batch_acts}
 use Rattle.sfx_model.proofs.Due.{due_from}
-use Rattle.sfx_model.proofs.Most.{none_ahead}
+use Rattle.sfx_model.proofs.Most.{form_ahead}
+use Rattle.sfx_model.proofs.Sites.{found}
 
 -- A batch that a source brings acts in the world, and the destination is then as the batch has it.
 pub brought_acts :
@@ -26,15 +27,15 @@ pub brought_acts :
     → Brings w units source m b → DeedsActIn w (batch_deeds units b rules budget m) source m.id n
 brought_acts w units source m n b rules budget orderly is brings =
     let part = brings.part in
-    let law : (k : ℕ) → w.units ≡ k → IsOrderly k source → IsOrderly k m → IsDue k source m brings.size b → KnowsForgotten k b m
+    let law : (k : ℕ) → w.units ≡ k → IsInForm k source → IsOrderly k m → IsDue k source m brings.size b → KnowsForgotten k b m
     → DeedsActIn w (batch_deeds k b rules budget m) source m.id (applied k b rules budget m).member =
     λ k same. subst
-    (λ (u : ℕ). IsOrderly u source → IsOrderly u m → IsDue u source m brings.size b → KnowsForgotten u b m
+    (λ (u : ℕ). IsInForm u source → IsOrderly u m → IsDue u source m brings.size b → KnowsForgotten u b m
     → DeedsActIn w (batch_deeds u b rules budget m) source m.id (applied u b rules budget m).member) same
     (λ theirs ours due knows. batch_acts w source m b rules brings.size budget part.well_formed part.apart part.source_stands part.stands
     theirs ours brings.some due knows) in
     subst (λ (x : Member). DeedsActIn w (batch_deeds units b rules budget m) source m.id x) (sym is)
-    (law units part.units_are brings.orderly orderly brings.due brings.knows)
+    (law units part.units_are brings.form orderly brings.due brings.knows)
 
 -- The destination of a batch that a source brings is not ahead.
 pub brought_behind :
@@ -44,10 +45,12 @@ brought_behind w units source m b brings =
     let from = due_from units source b.mode brings.size m b.from in
     let known : b.made_with ≡ laid_known units source = ap (λ (x : Batch). x.made_with) brings.due ∙ from.made_with in
     let forgotten : b.forgotten ≡ source.forgotten = ap (λ (x : Batch). x.forgotten) brings.due ∙ from.forgotten in
-    let theirs : IsOrderly w.units source = subst (λ (u : ℕ). IsOrderly u source) (sym part.units_are) brings.orderly in
+    let theirs : IsInForm w.units source = subst (λ (u : ℕ). IsInForm u source) (sym part.units_are) brings.form in
+    let (site, at, shows) = part.source_stands in
+    let some : 1 ≤ w.units = part.well_formed.counted site (found w.sites source.id site at).0 in
     let none : ahead_of m (laid_known units source) source.forgotten ≡ None =
     subst (λ (u : ℕ). ahead_of m (laid_known u source) source.forgotten ≡ None) part.units_are
-    (none_ahead w source m part.source_stands part.stands theirs) in
+    (form_ahead w source m part.source_stands part.stands some theirs) in
     ap (λ (x : Known). ahead_of m x b.forgotten) known ∙ (ap (λ (x : Forgets). ahead_of m (laid_known units source) x) forgotten ∙ none)
 
 -- What is told of a destination that a source brings a batch is not that it is ahead.

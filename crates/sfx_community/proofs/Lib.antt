@@ -12,3 +12,6 @@ pub mod History
 pub mod Taken
 pub mod Commits
 pub mod LinesCommit
+pub mod TurnsLemmas
+pub mod ComparisonsAreExact
+pub mod DistinctNames

@@ -19,6 +19,7 @@ use Rattle.sfx_model.proofs.Sets.{has_either}
 use Rattle.sfx_model.proofs.Sites.{found}
 use Rattle.sfx_model.proofs.Stepping.{Leaves}
 use Rattle.sfx_model.proofs.Turns.{stands_on, units_state, join_state, create_turn as creation_continues, edit_turn as edit_continues}
+use Rattle.sfx_model.specs.Units.{IsUnitCount}
 use Rattle.sfx_model.specs.Events.{Event, Units, Join, Make, Deed, Own, after_deeds, joined, AreLegalDeeds, IsNewId}
 use Rattle.sfx_model.specs.declared.clash_rule.ClashRule.{ClashRule}
 use Rattle.sfx_model.specs.declared.keep.Keep.{Keep}
@@ -176,17 +177,16 @@ unsaid_empty w s m at unsaid has =
 -- `units`
 units_happens : (w : World) (s : State) (n : ℕ) → Stands w s → LineHappens w s (units_turn s n)
 units_happens w s n at = by_count (is_unit_count n) where
-  says : 1 ≤ n → AllFit w (Own (Units n) ∷ []) → Continues w (Units n) (community_of (state_among n s.members))
-  says some fit = units_state w (community_of s) n at.ok at.stands some fit.0
+  says : IsUnitCount n → AllFit w (Own (Units n) ∷ []) → Continues w (Units n) (community_of (state_among n s.members))
+  says count fit = units_state w (community_of s) n at.ok at.stands count fit.0
 
   by_units : (b : Bool) → nat_eq s.units 0 ≡ b → nat_eq n 2 ≡ true → LineHappens w s (if b then acted Done (Units n) (state_among n s.members) else refused s UnitsSet)
   by_units true test is =
       let two : n ≡ 2 = eqb-true n 2 is in
       let unsaid : s.units ≡ 0 = eqb-true s.units 0 test in
-      let some : 1 ≤ n = omega (arith, two) in
       record {
         goes = λ fit.
-            let goes = says some fit in
+            let goes = says (inr (inl two)) fit in
             record {
               legal = (goes.legal, tt);
               well_formed = goes.well_formed;

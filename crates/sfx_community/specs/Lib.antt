@@ -3,3 +3,4 @@ pub mod State
 pub mod Engine
 pub mod Turn
 pub mod History
+pub mod Comparisons

@@ -1,4 +1,4 @@
-ghost use Rattle.std.specs.Prelude.{◌≡◌, ◌≤◌, IfOk};
+ghost use Rattle.std.specs.Prelude.{◌≡◌, ◌≤◌, ◌∷◌, ◌++◌, [], IfOk, OnOk};
 
 use crate::kind::Kind;
 use crate::pending::Pending;
@@ -41,4 +41,38 @@ impl<const U: usize> Kept<U> {
             pending: Vec::new(alloc),
         })
     }
+
+    /// An equal value of its own memory.
+    ///
+    /// # Errors
+    /// `Memory`.
+    pub(crate) fn copy(&self, alloc: Global) -> Result<Self, Memory>
+        ensures { IfOk result (λ copy. copy ≡ self.now) }
+    {
+        Ok(Kept {
+            replica: self.replica.copy(alloc)?,
+            kind: self.kind,
+            seq: self.seq,
+            pending: copied_pending(alloc, self.pending.as_slice())?,
+        })
+    }
+}
+
+/// Equal values of their own memory.
+fn copied_pending(alloc: Global, pending: &[Pending]) -> Result<Vec<Pending>, Memory>
+    ensures { IfOk result (λ copied. copied.items ≡ pending.now) }
+{
+    let mut copied = Vec::with_capacity(alloc, pending.len())?;
+    for file in pending {
+        push_copy(alloc, &mut copied, file)?;
+    }
+    Ok(copied)
+}
+
+/// Adds an equal value of its own memory.
+fn push_copy(alloc: Global, copied: &mut Vec<Pending>, file: &Pending) -> Result<(), Memory>
+    ensures { OnOk result (copied.new.items ≡ copied.old.items ++ file.now ∷ []) }
+{
+    copied.push(file.copy(alloc)?)?;
+    Ok(())
 }

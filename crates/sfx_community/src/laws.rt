@@ -1,10 +1,14 @@
-ghost use Rattle.std.specs.Prelude.{◌≡◌, ◌⊎◌, false, true, List, ℕ};
+ghost use Rattle.std.specs.Prelude.{◌≡◌, ◌≢◌, ◌⊎◌, ◌<◌, ◌++◌, false, true, List, Some, ℕ};
+ghost use Rattle.sfx_ids.specs.declared.item_id.ItemId.{ItemId};
+ghost use Rattle.sfx_ids.specs.declared.version.Version.{Version};
 ghost use Rattle.sfx_model.specs.Events.{after_deeds};
 ghost use Rattle.sfx_model.specs.Standing.{HasMember, IsWhole, StateStandsIn};
-ghost use Rattle.sfx_model.specs.World.{World, WellFormed};
+ghost use Rattle.sfx_model.specs.World.{Made, World, WellFormed};
+ghost use Rattle.sfx_reply.specs.declared.reply.Reply.TheVariants.{Compared};
+ghost use Rattle.sfx_community.specs.Comparisons.{IsAccount, IsComparison};
 ghost use Rattle.sfx_community.specs.History.{AllFit, AreNotAhead, AreOrderly, HasHappened, IsAllOf, has_session};
-ghost use Rattle.sfx_community.specs.State.{State, community_of, is_taken};
-ghost use Rattle.sfx_community.specs.Turn.{last_or, turn, turns};
+ghost use Rattle.sfx_community.specs.State.{KeptMember, State, community_of, is_taken, member_of};
+ghost use Rattle.sfx_community.specs.Turn.{equal_turn, knows_turn, last_or, turn, turns};
 
 /// What the lines of a script do happens in every well-formed world in which the state stands, where what
 /// they say of the whole community fits the world: a unit count, and the ids of replicas that join. The
@@ -54,4 +58,34 @@ pub fn taken_ids_have_members()
     ensures { (w : World) (s : State) (id : ℕ) →
         StateStandsIn w (community_of s) → IsWhole w (community_of s) → AreOrderly (community_of s) →
         is_taken id s.members ≡ true → HasMember (community_of s) id }
+{}
+
+/// What the lines `equal` and `knows` tell is what the replicas know and hold. A law: nothing happens when
+/// this is called.
+///
+/// `equal`: `knowledge` is told to be the same exactly where both know the same at every place and unit, and
+/// `items` exactly where they hold the same live items. `never`: in a state that stands in a well-formed
+/// world no line finds the same knowledge and different items. `knows`: there a version that was made is
+/// told to be known exactly where the replica holds it or one made knowing it.
+pub fn comparisons_are_exact()
+    ensures equal { (s : State) (first second : List ℕ) (m n : KeptMember) →
+        AreOrderly (community_of s) →
+        member_of s.members first ≡ Some m → member_of s.members second ≡ Some n →
+        IsComparison s.units m.member n.member (equal_turn s first second).reply }
+    ensures never { (w : World) (s : State) (line : List ℕ) →
+        WellFormed w → StateStandsIn w (community_of s) → AreOrderly (community_of s) →
+        (turn s line).reply ≢ Compared true false }
+    ensures knows { (w : World) (s : State) (name : List ℕ) (m : KeptMember) (i : ItemId) (u : ℕ) (v : Version) →
+        WellFormed w → StateStandsIn w (community_of s) →
+        member_of s.members name ≡ Some m → u < s.units → Made w.records i u v →
+        IsAccount w m.member i u v (knows_turn s name i u v).reply }
+{}
+
+/// A script may be cut anywhere between its lines: what comes of it is what comes of the lines before the
+/// cut, and then of the others from the state that those left. A law: nothing happens when this is called.
+pub fn lines_follow()
+    ensures replies { (s : State) (xs ys : List (List ℕ)) →
+        (turns s (xs ++ ys)).replies ≡ (turns s xs).replies ++ (turns (turns s xs).state ys).replies }
+    ensures state { (s : State) (xs ys : List (List ℕ)) →
+        (turns s (xs ++ ys)).state ≡ (turns (turns s xs).state ys).state }
 {}

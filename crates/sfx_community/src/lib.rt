@@ -2,7 +2,9 @@
 #![tactic(auto)]
 
 pub use kind::Kind;
-pub use laws::{commits_end_in_state, taken_ids_have_members, turns_happen};
+pub use laws::{
+    commits_end_in_state, comparisons_are_exact, lines_follow, taken_ids_have_members, turns_happen,
+};
 pub use meeting::{Meeting, meet};
 pub use pending::Pending;
 pub use state::State;

@@ -1,4 +1,4 @@
-ghost use Rattle.std.specs.Prelude.{◌≡◌, ◌≤◌, false, slice_get, IfOk, OnOk, OnErr, option_map};
+ghost use Rattle.std.specs.Prelude.{◌≡◌, ◌≤◌, ◌∷◌, ◌++◌, false, slice_get, IfOk, OnOk, OnErr, option_map};
 ghost use Rattle.std.specs.Option.{option_map_or};
 ghost use Rattle.sfx_script.specs.Limits.{AreWithinLimits, IsLimited};
 ghost use Rattle.sfx_reply.specs.declared.reply.Reply.TheVariants.{Synced};
@@ -39,7 +39,7 @@ impl<const U: usize> Model for Members<U> {
 impl<const U: usize> Members<U> {
     ghost use Rattle.std.specs.Prelude.{[]};
     ghost use Rattle.sfx_model.specs.Knowing.{names_id};
-    ghost use Rattle.sfx_community.specs.State.{is_taken, kept_as, member_of, members_with, state_among};
+    ghost use Rattle.sfx_community.specs.State.{has_name, is_taken, kept_as, member_of, members_with, state_among};
 
     /// There is no replica.
     pub(crate) fn new(alloc: Global) -> Self
@@ -48,6 +48,31 @@ impl<const U: usize> Members<U> {
         Members {
             kept: IndexMap::new(alloc),
         }
+    }
+
+    /// Equal replicas of their own memory.
+    ///
+    /// # Errors
+    /// `Memory`.
+    pub(crate) fn copy(&self, alloc: Global) -> Result<Self, Memory>
+        ensures { IfOk result (λ copy. copy ≡ self.now) }
+    {
+        let mut copied = Members::new(alloc);
+        for i in 0..self.kept.len() {
+            if let Some((name, kept)) = self.kept.get_index(i) {
+                copied.push(name.copy(alloc)?, kept.copy(alloc)?)?;
+            }
+        }
+        Ok(copied)
+    }
+
+    /// Adds a replica, whose name is new, behind the others.
+    fn push(&mut self, name: Text, kept: Kept<U>) -> Result<(), Memory>
+        requires new { has_name name self.old ≡ false }
+        ensures { OnOk result (self.new ≡ self.old ++ kept_as name kept.entry ∷ []) }
+    {
+        self.kept.insert(name, kept)?;
+        Ok(())
     }
 
     /// Runs a line that was read, other than `units`.

@@ -46,6 +46,18 @@ impl State {
         }
     }
 
+    /// An equal state of its own memory.
+    ///
+    /// # Errors
+    /// `Memory`.
+    pub fn copy(&self, alloc: Global) -> Result<Self, Memory>
+        ensures { IfOk result (λ copy. copy ≡ self.now) }
+    {
+        Ok(State {
+            engine: self.engine.copy(alloc)?,
+        })
+    }
+
     /// Runs one line of a script, which is none that is passed over, and says what it is replied.
     ///
     /// # Errors
@@ -95,6 +107,19 @@ impl State {
 
 impl Engine {
     ghost use Rattle.sfx_community.specs.Engine.{state_view};
+
+    /// Equal replicas of their own memory, under the same unit count.
+    fn copy(&self, alloc: Global) -> Result<Self, Memory>
+        ensures { IfOk result (λ copy. state_view copy ≡ state_view self.now) }
+    {
+        match self {
+            Engine::Unset => Ok(Engine::Unset),
+            Engine::One(members) => Ok(Engine::One(members.copy(alloc)?)),
+            Engine::Two(members) => Ok(Engine::Two(members.copy(alloc)?)),
+            Engine::Four(members) => Ok(Engine::Four(members.copy(alloc)?)),
+            Engine::Eight(members) => Ok(Engine::Eight(members.copy(alloc)?)),
+        }
+    }
 
     /// Runs a line that was read, other than `units`.
     fn answer(&mut self, alloc: Global, line: Line) -> Result<Reply, Memory>

@@ -19,7 +19,7 @@ use Rattle.sfx_model.specs.Results.{KeepsOthers, EditResult, StateResult, DeadNo
 use Rattle.sfx_model.specs.Replica.{RepresentsReplica, ActsIn}
 use Rattle.sfx_model.specs.States.{Rises, with_item, with_state, next_created, cells_with, KnowsOthersAlike, next_version, next_item, cells_at, created_contents, edited_contents, deleted_contents}
 use Rattle.sfx_model.proofs.Keeping.{event_keeps}
-use Rattle.sfx_model.proofs.Headline.{no_deletion, cell_there, cell_with}
+use Rattle.sfx_model.proofs.Headline.{live_holding, cell_with}
 use Rattle.sfx_model.proofs.Replicas.{edit_replica}
 use Rattle.sfx_model.proofs.Sites.{found}
 use Rattle.sfx_model.proofs.Steps.{same_item_self}
@@ -128,15 +128,7 @@ live_at :
     → WellFormed w → Represents w s m → state_of m.items i ≡ Some (Live cells)
     → IsLiveHolding w.units w.records i (holding s i)
 live_at w s m i cells ok rep live =
-    let held : ItemRepresents w.units w.records i (holding s i) (Some (Live cells)) =
-    subst (λ (o : Option ItemState). ItemRepresents w.units w.records i (holding s i) o) live (rep.items i) in
-    record {
-      is_present = held.is_present;
-      live = λ u small.
-          let (c, is) = cell_there cells u (omega (arith, held.latest.whole)) in
-          let cell = held.latest.each u c is in
-          (c.version, cell.latest, no_deletion w.records i u c.version c.value ok.history cell.value);
-    }
+    live_holding w s i cells ok (subst (λ (o : Option ItemState). ItemRepresents w.units w.records i (holding s i) o) live (rep.items i))
 
 -- A live item has a cell for each unit.
 live_whole :

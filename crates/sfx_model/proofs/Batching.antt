@@ -30,7 +30,7 @@ use Rattle.sfx_model.specs.declared.mode.Mode.TheVariants.{Recover}
 use Rattle.sfx_model.specs.Sets.{Has, IsPart}
 use Rattle.sfx_model.specs.World.{World, Site, Snapshot, holding}
 use Rattle.sfx_model.specs.Events.{Event, after_all, site_of, is_in, IsKnownHere, seen_by}
-use Rattle.sfx_model.specs.Acting.{IsOrderly, RangeFits, LearnsItem}
+use Rattle.sfx_model.specs.Acting.{IsInForm, IsOrderly, RangeFits, LearnsItem}
 use Rattle.sfx_model.specs.Batch.{Batch}
 use Rattle.sfx_model.specs.Clashes.{Plan, drafted_name}
 use Rattle.sfx_model.specs.Consistent.{live_name}
@@ -149,7 +149,7 @@ range_more units b left m orderly form =
 
 made_form :
     (w : World) (units : ℕ) (source m : Member) (snapshot : Site) (b : Batch)
-    → Ready w units source m snapshot → IsOrderly units source → IsFrom units source b → IsKnowledge units b.made_with
+    → Ready w units source m snapshot → IsInForm units source → IsFrom units source b → IsKnowledge units b.made_with
 made_form w units source m snapshot b ready theirs from =
     subst (λ (n : ℕ). IsKnowledge n b.made_with) ready.count (source_supplies w units source m snapshot b ready theirs from).made_with
 
@@ -303,7 +303,7 @@ fit_rest units source b rules m (Unlisted i) ts orderly fit =
 -- What is asked of the first task.
 first_fits :
     (w : World) (units : ℕ) (source m : Member) (snapshot : Site) (b : Batch) (t : Task) (ts : List Task)
-    → Ready w units source m snapshot → IsOrderly units source → IsFrom units source b → AllFit source b m (t ∷ ts)
+    → Ready w units source m snapshot → IsInForm units source → IsFrom units source b → AllFit source b m (t ∷ ts)
     → TaskFits w snapshot b m t
 first_fits w units source m snapshot b (Change item) ts ready theirs from fit =
     subst (λ (o : Option ItemState). Carried w snapshot item.id (tick_at b.made_with) o) fit.0
@@ -472,7 +472,7 @@ pub record GoesOn (w : World) (units : ℕ) (es : List Event) (m n : Member) : T
 
 first_acts :
     (w : World) (units : ℕ) (source : Member) (snapshot : Site) (b : Batch) (rules : Rules) (p : Progress) (t : Task) (ts : List Task)
-    → Ready w units source p.member snapshot → IsOrderly units source → IsFrom units source b → AllFit source b p.member (t ∷ ts)
+    → Ready w units source p.member snapshot → IsInForm units source → IsFrom units source b → AllFit source b p.member (t ∷ ts)
     → lacks (task_plan units rules b p.member t) p.member.clock ≡ false
     → TaskActs w (events_with snapshot (task_deeds units b t (task_plan units rules b p.member t) p.member)) p.member
     (after_task units b t (task_plan units rules b p.member t) p.member)
@@ -488,7 +488,7 @@ first_acts w units source snapshot b rules p t ts ready theirs from fit enough =
 
 last_acts :
     (w : World) (units : ℕ) (source : Member) (snapshot : Site) (b : Batch) (p : Progress)
-    → Ready w units source p.member snapshot → IsOrderly units source → IsFrom units source b
+    → Ready w units source p.member snapshot → IsInForm units source → IsFrom units source b
     → RangeSoFar w b p.member snapshot (lefts p.entries) []
     → TaskActs w (events_with snapshot (range_deeds b (lefts p.entries) p.member)) p.member (after_range units b (lefts p.entries) p.member)
 last_acts w units source snapshot b p ready theirs from so_far =
@@ -514,7 +514,7 @@ last_acts w units source snapshot b p ready theirs from so_far =
 
 pub go_acts :
     (w : World) (units : ℕ) (source : Member) (snapshot : Site) (b : Batch) (rules : Rules) (p : Progress) (ts : List Task)
-    → source.id ≢ p.member.id → Ready w units source p.member snapshot → IsOrderly units source → IsFrom units source b
+    → source.id ≢ p.member.id → Ready w units source p.member snapshot → IsInForm units source → IsFrom units source b
     → AllFit source b p.member ts → RangeSoFar w b p.member snapshot (lefts p.entries) ts
     → GoesOn w units (events_with snapshot (go_deeds units b rules p ts)) p.member (go units b rules p ts).member
 unfolding go go_deeds

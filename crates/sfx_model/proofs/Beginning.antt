@@ -17,7 +17,7 @@ use Rattle.sfx_model.specs.declared.mode.Mode.TheVariants.{Normal, Recover}
 use Rattle.sfx_model.specs.Sets.{Has}
 use Rattle.sfx_model.specs.World.{World, Site, holding}
 use Rattle.sfx_model.specs.Events.{site_of, is_in}
-use Rattle.sfx_model.specs.Acting.{IsOrderly}
+use Rattle.sfx_model.specs.Acting.{IsInForm}
 use Rattle.sfx_model.specs.Batch.{Batch, due, due_end, ids_in, batch_from}
 use Rattle.sfx_model.specs.Class.{is_forgotten_within, absent_class_of}
 use Rattle.sfx_model.specs.Entry.{Unlisted, Change}
@@ -30,7 +30,7 @@ use Rattle.sfx_model.specs.Snapshots.{Meets, AreWithin}
 use Rattle.sfx_model.proofs.Sets.{has_left, has_right}
 use Rattle.sfx_model.proofs.Batching.{IsPending, IsKnownNow, IsGoneNow, RangeSoFar}
 use Rattle.sfx_model.proofs.Classes.{range_listed, range_cleaned, range_unknown}
-use Rattle.sfx_model.proofs.Comparing.{laid_has, item_seen, unit_contained, creation_lacks, forgotten_within}
+use Rattle.sfx_model.proofs.Comparing.{in_form, laid_has, item_seen, unit_contained, creation_lacks, forgotten_within}
 use Rattle.sfx_model.proofs.Due.{has_filter, has_map, state_has, due_has, listed_not, due_batch, due_from}
 use Rattle.sfx_model.proofs.Replicas.{one_found}
 use Rattle.sfx_model.proofs.Sites.{found}
@@ -46,7 +46,7 @@ ForgottenKnown units Recover source m InRange = Unit {0}
 -- The destination meets what the source has of an item.
 met :
     (w : World) (units : ℕ) (source m : Member) (snapshot s : Site) (b : Batch) (i : ItemId)
-    → Ready w units source m snapshot → IsOrderly units source → IsFrom units source b → site_of w.sites m.id ≡ Some s
+    → Ready w units source m snapshot → IsInForm units source → IsFrom units source b → site_of w.sites m.id ≡ Some s
     → Meets w s (shown m) snapshot i (tick_at b.made_with) (state_of source.items i)
 met w units source m snapshot s b i ready theirs from at = record {
   here = (found w.sites m.id s at).0;
@@ -59,12 +59,12 @@ known_ticks :
     (w : World) (units : ℕ) (source m : Member) (snapshot : Site)
     → Ready w units source m snapshot → HasTicks w.units (laid_known units m) (vector_at m)
 known_ticks w units source m snapshot ready =
-    subst (λ (n : ℕ). HasTicks n (laid_known units m) (vector_at m)) (sym ready.count) (laid_has units m ready.orderly)
+    subst (λ (n : ℕ). HasTicks n (laid_known units m) (vector_at m)) (sym ready.count) (laid_has units m (in_form units m ready.orderly))
 
 -- An item of the source that is not unseen is known.
 seen_known :
     (w : World) (units : ℕ) (source m : Member) (snapshot : Site) (b : Batch) (left : List (ItemId × ℕ)) (i : ItemId) (state : ItemState)
-    → Ready w units source m snapshot → IsOrderly units source → IsFrom units source b
+    → Ready w units source m snapshot → IsInForm units source → IsFrom units source b
     → state_of source.items i ≡ Some state → is_unseen units (laid_known units m) (item_with i state) ≡ false
     → IsKnownNow w m.id snapshot left i
 seen_known w units source m snapshot b left i state ready theirs from is seen = record {
@@ -81,7 +81,7 @@ seen_known w units source m snapshot b left i state ready theirs from is seen = 
 -- An item that the source lacks is known where what the source has forgotten of it is.
 lacking_known :
     (w : World) (units : ℕ) (source m : Member) (snapshot : Site) (b : Batch) (left : List (ItemId × ℕ)) (i : ItemId)
-    → Ready w units source m snapshot → IsOrderly units source → IsFrom units source b → state_of source.items i ≡ None
+    → Ready w units source m snapshot → IsInForm units source → IsFrom units source b → state_of source.items i ≡ None
     → AreWithin units i (λ place r. tick_of (fvec source.forgotten place) r) (vector_at m)
     → IsKnownNow w m.id snapshot left i
 lacking_known w units source m snapshot b left i ready theirs from is within = record {
@@ -97,7 +97,7 @@ lacking_known w units source m snapshot b left i ready theirs from is within = r
 -- And so where the source never had it.
 uncreated_known :
     (w : World) (units : ℕ) (source m : Member) (snapshot : Site) (b : Batch) (left : List (ItemId × ℕ)) (i : ItemId)
-    → Ready w units source m snapshot → IsOrderly units source → IsFrom units source b
+    → Ready w units source m snapshot → IsInForm units source → IsFrom units source b
     → knows_version b.made_with i 0 (creation_of i) ≡ false → IsKnownNow w m.id snapshot left i
 uncreated_known w units source m snapshot b left i ready theirs from lacks = record {
   known = λ s at.
@@ -110,7 +110,7 @@ uncreated_known w units source m snapshot b left i ready theirs from lacks = rec
 -- An item that is kept, though the source does not list it, is known.
 kept_known :
     (w : World) (units : ℕ) (source m : Member) (snapshot : Site) (b : Batch) (left : List (ItemId × ℕ)) (i : ItemId) (local : ItemState)
-    → Ready w units source m snapshot → IsOrderly units source → IsFrom units source b → state_of source.items i ≡ None
+    → Ready w units source m snapshot → IsInForm units source → IsFrom units source b → state_of source.items i ≡ None
     → is_kept (absent_class_of units (laid_known units m) b.made_with b.forgotten (item_with i local)) ≡ true
     → IsKnownNow w m.id snapshot left i
 unfolding absent_class_of
@@ -139,7 +139,7 @@ kept_known w units source m snapshot b left i local ready theirs from is kept =
     by_within true e k =
         lacking_known w units source m snapshot b left i ready theirs from is
         (subst (λ (f : Forgets). AreWithin units i (λ place r. tick_of (fvec f place) r) (vector_at m)) from.forgotten
-        (forgotten_within units b.forgotten (laid_known units m) (vector_at m) i (laid_has units m ready.orderly) e))
+        (forgotten_within units b.forgotten (laid_known units m) (vector_at m) i (laid_has units m (in_form units m ready.orderly)) e))
     by_within false e k = by_local (is_unseen units b.made_with (item_with i local)) k
 
 -- ---- the range of a batch that is due
@@ -173,7 +173,7 @@ change_pending units source mode size m from x has =
 -- An item that is not listed and does not stay is one of the tasks.
 unlisted_pending :
     (units : ℕ) (source : Member) (size : ℕ) (m : Member) (from : Cut) (i : ItemId) (local : ItemState)
-    → IsOrderly units source → state_of source.items i ≡ None → state_of m.items i ≡ Some local
+    → IsInForm units source → state_of source.items i ≡ None → state_of m.items i ≡ Some local
     → is_in from (due_end units size (laid_known units m) from source.items) i ≡ true
     → is_kept (absent_class_of units (laid_known units m) (laid_known units source) source.forgotten (item_with i local)) ≡ false
     → Has (Unlisted i) (tasks_of units (due_batch units source Recover size m from) m)
@@ -216,7 +216,7 @@ due_class units source mode size m from x = refl
 -- Each item of the range.
 pub due_so_far :
     (w : World) (units : ℕ) (source : Member) (mode : Mode) (size : ℕ) (m : Member) (snapshot : Site) (from : Cut)
-    → 1 ≤ size → Ready w units source m snapshot → IsOrderly units source
+    → 1 ≤ size → Ready w units source m snapshot → IsInForm units source
     → ForgottenKnown units mode source m (λ i. is_in (due_batch units source mode size m from).from (due_batch units source mode size m from).to i ≡ true)
     → RangeSoFar w (due_batch units source mode size m from) m snapshot [] (tasks_of units (due_batch units source mode size m from) m)
 due_so_far w units source mode size m snapshot from some ready theirs forgotten i within = by_source (state_of source.items i) refl

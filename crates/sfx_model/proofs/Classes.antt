@@ -130,22 +130,22 @@ cleaned_taken w s m snapshot i made_with state u ok meets gone small within = re
   present = meets.carried.state.is_present;
 }
 
+-- A state that is there has a known version of its first unit.
+first_known :
+    (w : World) (x : Site) (i : ItemId) (state : ItemState)
+    → 1 ≤ w.units → ItemRepresents w.units w.records i (holding x i) (Some state) → (v : Version) × Has v (x.known i 0)
+first_known w x i (Live cells) some held =
+    let (c, is) = cell_there cells 0 (omega (arith, held.latest.whole, some)) in (c.version, (held.latest.each 0 c is).latest.0)
+first_known w x i (Dead d) some held = (d, (held.latest 0 some).0.0)
+
 -- Where either side has the item, a fresh version may be stamped.
 pub stamp_known :
     (w : World) (s : Site) (m : Shown) (snapshot : Snapshot) (i : ItemId) (made_with : Cut → ℕ → ℕ → ℕ)
     (state : ItemState) (v : Version)
     → WellFormed w → Meets w s m snapshot i made_with (Some state) → IsFresh s v → StampLegal s snapshot i v
 stamp_known w s m snapshot i made_with state v ok meets fresh =
-    record { fresh = fresh; known = let (x, has) = at_first state meets.carried.state in inr (0, x, has) }
-  where
-    at_first :
-        (st : ItemState)
-        → ItemRepresents w.units w.records i (holding snapshot i) (Some st)
-        → (x : Version) × Has x (snapshot.known i 0)
-    at_first (Live cells) held = let (c, is) =
-        cell_there cells 0 (omega (arith, held.latest.whole, ok.counted s meets.here)) in
-        (c.version, (held.latest.each 0 c is).latest.0)
-    at_first (Dead d) held = (d, (held.latest 0 (ok.counted s meets.here)).0.0)
+    let (x, has) = first_known w snapshot i state (ok.counted s meets.here) meets.carried.state in
+    record { fresh = fresh; known = inr (0, x, has) }
 
 pub stamp_held :
     (w : World) (s : Site) (m : Shown) (snapshot : Snapshot) (i : ItemId) (made_with : Cut → ℕ → ℕ → ℕ)
@@ -153,19 +153,9 @@ pub stamp_held :
     → WellFormed w → Meets w s m snapshot i made_with seen → state_of m.items i ≡ Some state → IsFresh s v
     → StampLegal s snapshot i v
 stamp_held w s m snapshot i made_with seen state v ok meets at fresh =
-    record { fresh = fresh; known = let (x, has) = at_first state held in inl (0, x, has) }
-  where
-    held : ItemRepresents w.units w.records i (holding s i) (Some state)
-    held = subst (λ (o : Option ItemState). ItemRepresents w.units w.records i (holding s i) o) at
-        (meets.represents.items i)
-
-    at_first :
-        (st : ItemState)
-        → ItemRepresents w.units w.records i (holding s i) (Some st) → (x : Version) × Has x (s.known i 0)
-    at_first (Live cells) h = let (c, is) =
-        cell_there cells 0 (omega (arith, h.latest.whole, ok.counted s meets.here)) in
-        (c.version, (h.latest.each 0 c is).latest.0)
-    at_first (Dead d) h = (d, (h.latest 0 (ok.counted s meets.here)).0.0)
+    let held = subst (λ (o : Option ItemState). ItemRepresents w.units w.records i (holding s i) o) at (meets.represents.items i) in
+    let (x, has) = first_known w s i state (ok.counted s meets.here) held in
+    record { fresh = fresh; known = inl (0, x, has) }
 
 -- An item that the snapshot lacks, whose version here is contained in the made-with knowledge, may be
 -- dropped once what the snapshot forgot is forgotten here.

@@ -12,7 +12,7 @@ use Rattle.sfx_knowledge.specs.Knowledge.{Known, HasTicks, IsKnowledge, tick_at}
 use Rattle.sfx_knowledge.specs.Forgotten.{Forgets, fvec}
 use Rattle.sfx_knowledge.proofs.Making.{ticks-with_own, IsKnowledge-with_own}
 use Rattle.sfx_model.specs.World.{Record, Holding, IsContained}
-use Rattle.sfx_model.specs.Acting.{IsOrderly}
+use Rattle.sfx_model.specs.Acting.{IsInForm, IsOrderly}
 use Rattle.sfx_model.specs.Class.{is_forgotten_within}
 use Rattle.sfx_item.specs.Item.{version_at, MemberItem, ItemState, Live, Dead}
 use Rattle.sfx_model.specs.Knowing.{laid_known}
@@ -23,12 +23,22 @@ use Rattle.sfx_model.proofs.Headline.{cell_there}
 use Rattle.sfx_model.proofs.Knowing.{forgotten_within_decided}
 use Rattle.sfx_model.proofs.PerUnit.{none_at}
 
--- What a member knows, as a list with its own clock laid over it.
-pub laid_has : (units : ℕ) (m : Member) → IsOrderly units m → HasTicks units (laid_known units m) (vector_at m)
-laid_has units m orderly = ticks-with_own units m.id m.clock m.knowledge orderly.knowledge orderly.clock orderly.id
+-- A member whose lists are in order is in its form.
+pub in_form : (units : ℕ) (m : Member) → IsOrderly units m → IsInForm units m
+in_form units m orderly = record {
+  id = orderly.id;
+  clock = orderly.clock;
+  knowledge = orderly.knowledge;
+  forgotten = orderly.forgotten;
+  rising = orderly.rising;
+}
 
-pub laid_form : (units : ℕ) (m : Member) → IsOrderly units m → IsKnowledge units (laid_known units m)
-laid_form units m orderly = IsKnowledge-with_own units m.id m.clock m.knowledge orderly.knowledge orderly.clock orderly.id
+-- What a member knows, as a list with its own clock laid over it.
+pub laid_has : (units : ℕ) (m : Member) → IsInForm units m → HasTicks units (laid_known units m) (vector_at m)
+laid_has units m form = ticks-with_own units m.id m.clock m.knowledge form.knowledge form.clock form.id
+
+pub laid_form : (units : ℕ) (m : Member) → IsInForm units m → IsKnowledge units (laid_known units m)
+laid_form units m form = IsKnowledge-with_own units m.id m.clock m.knowledge form.knowledge form.clock form.id
 
 -- Knowledge that contains a version, as a fact.
 le_is : (a b : ℕ) → nat_le a b ≡ true → a ≤ b

@@ -8,7 +8,7 @@ use Rattle.sfx_model.specs.declared.mode.Mode.TheVariants.{Normal, Recover}
 use Rattle.sfx_model.specs.World.{World, Site, WellFormed}
 use Rattle.sfx_model.specs.Sets.{Has}
 use Rattle.sfx_model.specs.Events.{Deed, after_deeds, site_of, is_in}
-use Rattle.sfx_model.specs.Acting.{IsOrderly, IsDue, KnowsForgotten, DeedsActIn, DeedsContinue, IsMemberOf}
+use Rattle.sfx_model.specs.Acting.{IsInForm, IsOrderly, IsDue, KnowsForgotten, DeedsActIn, DeedsContinue, IsMemberOf}
 use Rattle.sfx_model.specs.Batch.{Batch, mode_of}
 use Rattle.sfx_model.specs.Deeds.{batch_deeds, session_deeds, events_with}
 use Rattle.sfx_model.specs.Knowing.{laid_known}
@@ -21,6 +21,7 @@ use Rattle.sfx_model.specs.States.{ChangesMember, IsDeedOf}
 use Rattle.sfx_model.proofs.Batching.{GoesOn}
 use Rattle.sfx_model.proofs.Beginning.{ForgottenKnown}
 use Rattle.sfx_model.proofs.Communities.{changed_stands, changing_stands}
+use Rattle.sfx_model.proofs.Comparing.{in_form}
 use Rattle.sfx_model.proofs.Deeding.{deeds_leave, of_any}
 use Rattle.sfx_model.proofs.Due.{due_batch, due_from}
 use Rattle.sfx_model.proofs.Sessioning.{due_acts, mode_known, session_acts}
@@ -81,7 +82,7 @@ forgotten_in units source m b Recover is same known = tt
 pub batch_acts :
     (w : World) (source m : Member) (b : Batch) (rules : Rules) (size : ℕ) (budget : Option ℕ)
     → WellFormed w → source.id ≢ m.id → RepresentsReplica w source.id (shown source) → RepresentsReplica w m.id (shown m)
-    → IsOrderly w.units source → IsOrderly w.units m → 1 ≤ size → IsDue w.units source m size b → KnowsForgotten w.units b m
+    → IsInForm w.units source → IsOrderly w.units m → 1 ≤ size → IsDue w.units source m size b → KnowsForgotten w.units b m
     → DeedsActIn w (batch_deeds w.units b rules budget m) source m.id (applied w.units b rules budget m).member
 batch_acts w source m b rules size budget ok apart (snapshot, at, rep) stands theirs ours some due known =
     let ready = both_ready w source m snapshot ok at (snapshot, at, rep) stands ours in
@@ -108,11 +109,12 @@ pub whole_session_acts :
 unfolding session_of
 whole_session_acts w source m rules size cut ok apart (snapshot, at, rep) stands theirs ours some =
     let ready = both_ready w source m snapshot ok at (snapshot, at, rep) stands ours in
+    let form = in_form w.units source theirs in
     let mode = mode_of w.units source.forgotten (laid_known w.units m) in
     let bound = length source.items + 1 in
     deeds_act w source m (session_of w.units source m rules size cut).course.member snapshot (session_deeds w.units source m rules size cut) apart ready
     (session_names bound w.units source mode rules size (set_out cut m) Start)
-    (session_acts bound w w.units source snapshot mode rules size (set_out cut m) Start some apart ready theirs (mode_known w.units source m theirs ready.orderly))
+    (session_acts bound w w.units source snapshot mode rules size (set_out cut m) Start some apart ready form (mode_known w.units source m form ready.orderly))
 
 -- ---- a state
 

@@ -1,5 +1,5 @@
 -- The run with a session that is cut.
-use Rattle.std.proofs.Common.{◌≡◌, ◌≢◌, ℕ, ◌+◌, ◌<◌, ◌^◌, inl, inr, sym, ap, refl, subst, ◌∙◌, Bool, true, false, List, [], ◌∷◌, codes, Some, None, arith, lit≤, lit<}
+use Rattle.std.proofs.Common.{◌≡◌, ◌≢◌, ℕ, ◌+◌, ◌<◌, ◌≤◌, ◌^◌, inl, inr, sym, ap, refl, subst, ◌∙◌, Bool, true, false, List, [], ◌∷◌, codes, Some, None, arith, lit≤, lit<}
 use Rattle.sfx_ids.specs.declared.cut.Cut.TheVariants.{At}
 use Rattle.sfx_ids.specs.declared.item_id.ItemId.{ItemId}
 use Rattle.sfx_ids.specs.Tick.{max_tick}
@@ -90,7 +90,7 @@ abbrev after_5 : World
 after_5 = after after_4 (creation 5 (codes "n5"))
 
 step_units : Continues empty_world (Units 2) nobody
-step_units = units_state empty_world (record { units = 0; members = [] }) 2 empty_well_formed (empty_state empty_world) (lit≤ tt) (inl refl)
+step_units = units_state empty_world (record { units = 0; members = [] }) 2 empty_well_formed (empty_state empty_world) (inr (inl refl)) (inl refl)
 
 step_join : Continues after_units (Join 10) (a_with 0 [])
 step_join =
@@ -188,30 +188,26 @@ five_apart = tests_apart five.items tests where
     by_test false e = refl
     by_test true e = absurd (subst (λ (ids : List ItemId). Has k ids) (none_clashes j a first) (clash_lists five.items j a k b (λ same. other (sym same)) second e))
 
-five_orderly : IsOrderly 2 five
-five_orderly = record {
+-- A member that knows nothing of others has its lists in order where its items are.
+pub alone_orderly : (id clock : ℕ) (items : List MemberItem) → id < 2 ^ 128 → clock ≤ max_tick → AreRising items → AreApart items → IsOrderly 2 (alone id clock items)
+alone_orderly id clock items fits low rising names = record {
   some = lit≤ tt;
-  id = lit< tt;
-  clock = lit≤ tt;
+  id = fits;
+  clock = low;
   knowledge = IsKnowledge-nothing 2;
   forgotten = nothing_form;
-  rising = five_rising;
-  names = five_apart;
+  rising = rising;
+  names = names;
 }
+
+five_orderly : IsOrderly 2 five
+five_orderly = alone_orderly 10 5 five.items (lit< tt) (lit≤ tt) five_rising five_apart
 
 none_apart : AreApart []
 none_apart i j x y a b differ at_i at_j named_i named_j clashes = let bad : None ≡ Some x = at_i in cc
 
 pub reader_orderly : (id : ℕ) → id < 2 ^ 128 → IsOrderly 2 (alone id 0 [])
-reader_orderly id small = record {
-  some = lit≤ tt;
-  id = small;
-  clock = lit≤ tt;
-  knowledge = IsKnowledge-nothing 2;
-  forgotten = nothing_form;
-  rising = tt;
-  names = none_apart;
-}
+reader_orderly id small = alone_orderly id 0 [] small (lit≤ tt) tt none_apart
 
 -- ---- the session
 

@@ -21,26 +21,13 @@ use Rattle.sfx_item.specs.Item.{ItemState, Live, Dead}
 use Rattle.sfx_model.specs.Members.{ItemRepresents}
 use Rattle.sfx_model.specs.Results.{StateResult, Unchanged, AsSeen, Removed, DeadNow, LiveNow, CellResult, CellsResult, SkipsLeft, cell_at}
 use Rattle.sfx_model.specs.Units.{at_unit}
-use Rattle.sfx_model.proofs.Headline.{no_deletion, cell_there}
+use Rattle.sfx_model.proofs.Headline.{live_holding}
 use Rattle.sfx_model.proofs.Marks.{some_of, none_of}
 use Rattle.sfx_model.proofs.PerUnit.{at_get, at_past, length_each, each_get, any_at, any_none, any_where, any_false}
-use Rattle.sfx_model.proofs.Shaping.{HaveMark, IsLiveUnit, IsLiveOne, brings_unit, GoTogether, IsLiveDraft, Shape, KeepsAll, LeavesAll, DropsAll, DeletesAll, TakesDead, MakesLive, IsShaped, MarkFits, HasCells}
+use Rattle.sfx_model.proofs.Shaping.{HaveMark, IsLiveUnit, IsLiveOne, live_not_gone, brings_unit, GoTogether, IsLiveDraft, Shape, KeepsAll, LeavesAll, DropsAll, DeletesAll, TakesDead, MakesLive, IsShaped, MarkFits, HasCells}
 use Rattle.sfx_model.proofs.Fitting.{Fits}
 
 -- ---- the entry may be applied
-
--- An item with a live state is live there.
-pub live_holding :
-    (w : World) (x : Site) (i : ItemId) (cells : List Cell)
-    → WellFormed w → ItemRepresents w.units w.records i (holding x i) (Some (Live cells))
-    → IsLiveHolding w.units w.records i (holding x i)
-live_holding w x i cells ok held = record {
-  is_present = held.is_present;
-  live = λ u small.
-      let (c, is) = cell_there cells u (omega (arith, held.latest.whole)) in
-      let cell = held.latest.each u c is in
-      (c.version, cell.latest, no_deletion w.records i u c.version c.value ok.history cell.value);
-}
 
 live_one :
     (w : World) (x : Site) (i : ItemId) (o : Option ItemState)
@@ -274,16 +261,9 @@ draft_result units v d seen here some has shaped = by_shape shaped.shape
         rw (none_pass units d Taken is_gone long all refl, one_passes units d Taken is_taken long some all refl)
         (AsSeen (λ u small. mark_is units d Taken u all small) as_seen)
     by_shape (MakesLive values live) =
-        rw (any_none is_gone d.marks Stays (λ u small. not_gone (at_unit d.marks u Stays) (at_unit values u []) (cell_at seen u) (cell_at here u) (live.each u (omega (arith, long)))))
+        rw (any_none is_gone d.marks Stays (λ u small. live_not_gone (at_unit d.marks u Stays) (at_unit values u []) (cell_at seen u) (cell_at here u) (live.each u (omega (arith, long)))))
         (by_taken (tested (list_any is_taken d.marks)) (tested (list_any is_stamped d.marks)))
       where
-        not_gone : (k : Mark) (value : List ℕ) (a b : Option Cell) → IsLiveUnit k value a b → is_gone k ≡ false
-        not_gone Stays value a b is = refl
-        not_gone Taken value a b is = refl
-        not_gone Stamped value a b is = refl
-        not_gone Left value a b is = refl
-        not_gone Gone value a b is = absurd is
-
         made : brought units v d.marks d.values seen here ≡ Some (Live (cells_after units v d.marks values (cells_of seen) (cells_of here)))
         made = ap (λ (o : Option (List (List ℕ))). brought units v d.marks o seen here) live.are
 

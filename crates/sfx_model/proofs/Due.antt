@@ -14,7 +14,7 @@ use Rattle.sfx_model.specs.declared.mode.Mode.{Mode}
 use Rattle.sfx_model.specs.declared.mode.Mode.TheVariants.{Normal, Recover}
 use Rattle.sfx_model.specs.Sets.{Has}
 use Rattle.sfx_model.specs.Events.{same_item, is_in}
-use Rattle.sfx_model.specs.Acting.{IsOrderly}
+use Rattle.sfx_model.specs.Acting.{IsInForm, IsOrderly}
 use Rattle.sfx_model.specs.Batch.{Batch, due, place_behind, due_end, ids_in, batch_from}
 use Rattle.sfx_model.specs.Class.{absent_class_of}
 use Rattle.sfx_model.specs.Entry.{Task, Unlisted, Change}
@@ -273,7 +273,7 @@ unlisted_here units source size m from x orderly has =
 
 pub due_fit :
     (units : ℕ) (source : Member) (mode : Mode) (size : ℕ) (m : Member) (from : Cut)
-    → IsOrderly units source → IsOrderly units m
+    → IsInForm units source → IsOrderly units m
     → AllFit source (due_batch units source mode size m from) m (tasks_of units (due_batch units source mode size m from) m)
 unfolding batch_from tasks_of
 due_fit units source mode size m from theirs ours = by_mode mode

@@ -7,7 +7,7 @@ use Rattle.sfx_ids.specs.declared.cut.Cut.TheVariants.{At}
 use Rattle.sfx_ids.specs.declared.item_id.ItemId.{ItemId}
 use Rattle.sfx_ids.specs.declared.version.Version.{Version}
 use Rattle.sfx_model.specs.Sets.{Has}
-use Rattle.sfx_model.specs.World.{Record, Written, Deleted, World, Site, WellFormed, IsSoundItem, holding, IsAt, Made, IsDeletion, Precedes, IsLatest, IsHistory}
+use Rattle.sfx_model.specs.World.{Record, Written, Deleted, World, Site, WellFormed, IsLiveHolding, IsSoundItem, holding, IsAt, Made, IsDeletion, Precedes, IsLatest, IsHistory}
 use Rattle.sfx_item.specs.declared.cell.Cell.{Cell}
 use Rattle.sfx_item.specs.Item.{ItemState, Live, Dead, version_at}
 use Rattle.sfx_model.specs.Members.{Shown, Represents, ItemRepresents, IsLatestState, IsLatestCell, AreRising, Community, shown, state_of}
@@ -88,6 +88,19 @@ no_deletion rs i u v value ok sets deletes =
     let same : sets.0 ≡ deletes.0 = one_record rs sets.0 deletes.0 i u v ok sets.1 deletes.1 sets.2 deletes.2 in
     let bad : Written value ≡ Deleted = sym sets.3 ∙ ap (λ (r : Record). r.content) same ∙ deletes.3 in
     cc
+
+-- An item with a live state is live there
+pub live_holding :
+    (w : World) (x : Site) (i : ItemId) (cells : List Cell)
+    → WellFormed w → ItemRepresents w.units w.records i (holding x i) (Some (Live cells))
+    → IsLiveHolding w.units w.records i (holding x i)
+live_holding w x i cells ok held = record {
+  is_present = held.is_present;
+  live = λ u small.
+      let (c, is) = cell_there cells u (omega (arith, held.latest.whole)) in
+      let cell = held.latest.each u c is in
+      (c.version, cell.latest, no_deletion w.records i u c.version c.value ok.history cell.value);
+}
 
 -- The version of a live unit was made knowing each deletion of the unit that its member knows
 pub deletions_respected :

@@ -238,7 +238,7 @@ units_keeps w units ok legal = elim legal.said [
   | inl unsaid ↦
       let nowhere : (s : Site) → Has s w.sites → ⊥ = λ s has. subst (λ (ss : List Site). Has s ss) unsaid.1 has in
       record {
-        counted = λ s has. legal.some;
+        counted = λ s has. absurd (nowhere s has);
         distinct = ok.distinct;
         history = ok.history;
         records = λ r has. absurd (nowhere (ok.records r has).maker.0 (ok.records r has).maker.1);

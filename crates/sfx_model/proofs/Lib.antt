@@ -63,7 +63,15 @@ pub mod Beginning
 pub mod Sessioning
 pub mod Sourced
 pub mod Concluding
+pub mod Gaining
+pub mod EqualKnowledge
+pub mod Still
 pub mod Orderly
 pub mod CutRun
 pub mod TwoStates
 pub mod Most
+pub mod QuietDrafts
+pub mod UndisturbedLemmas
+pub mod QuietTasks
+pub mod QuietRuns
+pub mod QuietSessions

@@ -13,13 +13,13 @@ use Rattle.sfx_knowledge.specs.Forgotten.{Forgets, AreForgets, fvec}
 use Rattle.sfx_knowledge.proofs.Forgets.{same_forgets}
 use Rattle.sfx_knowledge.proofs.RowForms.{listed-here, listed-past, row_at-first}
 use Rattle.sfx_knowledge.proofs.Starts.{found, begins}
-use Rattle.sfx_model.specs.Acting.{IsOrderly}
+use Rattle.sfx_model.specs.Acting.{IsInForm, IsOrderly}
 use Rattle.sfx_model.specs.Knowing.{ahead_of, laid_known, most_in, most_known, row_clocks}
 use Rattle.sfx_model.specs.Members.{Member, shown, clock_of}
 use Rattle.sfx_model.specs.Replica.{RepresentsReplica}
 use Rattle.sfx_model.specs.Sets.{Has}
 use Rattle.sfx_model.specs.World.{World}
-use Rattle.sfx_model.proofs.Comparing.{laid_form, laid_has}
+use Rattle.sfx_model.proofs.Comparing.{in_form, laid_form, laid_has}
 use Rattle.sfx_model.proofs.Sets.{has_left, has_right, has_either}
 use Rattle.sfx_model.proofs.Sites.{clock_found}
 
@@ -196,14 +196,18 @@ not_ahead m known forgotten within =
     let fails : nat_lt m.clock (most_known m.id known forgotten) ≡ false = grind (arith, nat_tests, within) in
     rw fails refl
 
-pub none_ahead : (w : World) (source m : Member) → RepresentsReplica w source.id (shown source) → RepresentsReplica w m.id (shown m)
-    → IsOrderly w.units source → ahead_of m (laid_known w.units source) source.forgotten ≡ None
-none_ahead w source m (site, at, there) (s, is, here) orderly =
+pub form_ahead : (w : World) (source m : Member) → RepresentsReplica w source.id (shown source) → RepresentsReplica w m.id (shown m)
+    → 1 ≤ w.units → IsInForm w.units source → ahead_of m (laid_known w.units source) source.forgotten ≡ None
+form_ahead w source m (site, at, there) (s, is, here) some form =
     let clock : clock_of w.sites m.id ≡ m.clock = clock_found w.sites m.id s is ∙ sym here.header.clock in
-    let known = known_bound w.units m.id m.clock (laid_known w.units source) orderly.some (laid_form w.units source orderly) (λ place u inside small.
+    let known = known_bound w.units m.id m.clock (laid_known w.units source) some (laid_form w.units source form) (λ place u inside small.
     let bound = there.bounded.vectors place u m.id inside small in
-    let same = laid_has w.units source orderly place u m.id inside small in
+    let same = laid_has w.units source form place u m.id inside small in
     subst (λ (t : ℕ). t ≤ m.clock) (sym same) (subst (λ (c : ℕ). (shown source).vector_at place u m.id ≤ c) clock bound)) in
-    let forgotten = forgotten_bound m.id m.clock source.forgotten orderly.forgotten.segments (λ place inside.
+    let forgotten = forgotten_bound m.id m.clock source.forgotten form.forgotten.segments (λ place inside.
     subst (λ (c : ℕ). tick_of (fvec source.forgotten place) m.id ≤ c) clock (there.bounded.forgotten place m.id inside)) in
     not_ahead m (laid_known w.units source) source.forgotten (grind (arith, known, forgotten))
+
+pub none_ahead : (w : World) (source m : Member) → RepresentsReplica w source.id (shown source) → RepresentsReplica w m.id (shown m)
+    → IsOrderly w.units source → ahead_of m (laid_known w.units source) source.forgotten ≡ None
+none_ahead w source m there here orderly = form_ahead w source m there here orderly.some (in_form w.units source orderly)

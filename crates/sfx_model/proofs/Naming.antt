@@ -177,6 +177,9 @@ named_before : (i : ItemId) (old new : List MemberItem) (j : ItemId) (name : Lis
 named_before i old new j name keeps other is =
     record { state = is.state; there = sym (keeps j other) ∙ is.there; live = is.live }
 
+apart_id : (i x : ItemId) → same_item x i ≡ false → i ≢ x
+apart_id i x e same = true≢false (sym (subst (λ (y : ItemId). same_item x y ≡ true) (sym same) (same_item_self x)) ∙ e)
+
 -- One item changes, and its name, if it has one, clashes with those of no others but the listed ones.
 pub apart_changed :
     (i : ItemId) (js : List ItemId) (old new : List MemberItem)
@@ -186,9 +189,6 @@ pub apart_changed :
 apart_changed i js old new apart keeps free j k a b other first second not_first not_second =
     by_item (tested (same_item j i)) (tested (same_item k i))
   where
-    apart_id : (x : ItemId) → same_item x i ≡ false → i ≢ x
-    apart_id x e same = true≢false (sym (subst (λ (y : ItemId). same_item x y ≡ true) (sym same) (same_item_self x)) ∙ e)
-
     by_item : Tested (same_item j i) → Tested (same_item k i) → is_clash a b ≡ false
     by_item (yes_it e) second_is =
         let is : j ≡ i = same_item_is j i e in
@@ -197,13 +197,13 @@ apart_changed i js old new apart keeps free j k a b other first second not_first
         (named_before i old new k b keeps apart_k second) (λ has. not_first is has)
     by_item (not_it e) (yes_it f) =
         let is : k ≡ i = same_item_is k i f in
-        let apart_j : i ≢ j = apart_id j e in
+        let apart_j : i ≢ j = apart_id i j e in
         clash_symmetric a b
         ∙ free b (subst (λ (x : ItemId). IsNamed new x b) is second) j a (λ same. apart_j (sym same))
         (named_before i old new j a keeps apart_j first) (λ has. not_second is has)
     by_item (not_it e) (not_it f) =
-        apart_tests old apart j k a b other (named_before i old new j a keeps (apart_id j e) first)
-        (named_before i old new k b keeps (apart_id k f) second)
+        apart_tests old apart j k a b other (named_before i old new j a keeps (apart_id i j e) first)
+        (named_before i old new k b keeps (apart_id i k f) second)
 
 -- One of the others changes, and its name, if it has one, is free.
 pub apart_other :
@@ -213,9 +213,6 @@ pub apart_other :
 apart_other i j js old new but keeps free x y a b other first second not_first not_second =
     by_item (tested (same_item x j)) (tested (same_item y j))
   where
-    apart_id : (z : ItemId) → same_item z j ≡ false → j ≢ z
-    apart_id z e same = true≢false (sym (subst (λ (q : ItemId). same_item z q ≡ true) (sym same) (same_item_self z)) ∙ e)
-
     by_item : Tested (same_item x j) → Tested (same_item y j) → is_clash a b ≡ false
     by_item (yes_it e) second_is =
         let is : x ≡ j = same_item_is x j e in
@@ -224,12 +221,12 @@ apart_other i j js old new but keeps free x y a b other first second not_first n
         (named_before j old new y b keeps apart_y second)
     by_item (not_it e) (yes_it f) =
         let is : y ≡ j = same_item_is y j f in
-        let apart_x : j ≢ x = apart_id x e in
+        let apart_x : j ≢ x = apart_id j x e in
         clash_symmetric a b
         ∙ free b (subst (λ (z : ItemId). IsNamed new z b) is second) x a (λ same. apart_x (sym same))
         (named_before j old new x a keeps apart_x first)
     by_item (not_it e) (not_it f) =
-        but x y a b other (named_before j old new x a keeps (apart_id x e) first)
-        (named_before j old new y b keeps (apart_id y f) second)
-        (λ is has. elim has [ inl same ↦ apart_id y f (sym same) | inr there ↦ not_first is there ])
-        (λ is has. elim has [ inl same ↦ apart_id x e (sym same) | inr there ↦ not_second is there ])
+        but x y a b other (named_before j old new x a keeps (apart_id j x e) first)
+        (named_before j old new y b keeps (apart_id j y f) second)
+        (λ is has. elim has [ inl same ↦ apart_id j y f (sym same) | inr there ↦ not_first is there ])
+        (λ is has. elim has [ inl same ↦ apart_id j x e (sym same) | inr there ↦ not_second is there ])

@@ -8,7 +8,7 @@ use Rattle.sfx_item.specs.Item.{MemberItem, ItemState}
 use Rattle.sfx_model.specs.Members.{AreRising, IsIdBelow, state_of}
 use Rattle.sfx_model.specs.States.{is_id_below, with_item, with_state}
 use Rattle.sfx_model.proofs.Steps.{same_item_is}
-use Rattle.sfx_model.proofs.Rising.{ids_compared, before_trans, state_here, state_behind}
+use Rattle.sfx_model.proofs.Rising.{ids_compared, before_trans, state_behind, state_head, state_here}
 
 -- What the test of order finds.
 pub below_is : (a b : ItemId) → is_id_below a b ≡ true → IsIdBelow a b
@@ -118,17 +118,10 @@ pub with_others :
 with_others x [] j other = state_behind x [] j other
 with_others x (z ∷ zs) j other = by_test (with_others x zs j other) (is_id_below z.id x.id)
   where
-    by_head :
-        state_of (with_item x zs) j ≡ state_of zs j
-        → (b : Bool)
-        → (if b then Some z.state else state_of (with_item x zs) j) ≡ (if b then Some z.state else state_of zs j)
-    by_head rest true = refl
-    by_head rest false = rest
-
     by_test :
         state_of (with_item x zs) j ≡ state_of zs j
         → (b : Bool) → state_of (if b then z ∷ with_item x zs else x ∷ z ∷ zs) j ≡ state_of (z ∷ zs) j
-    by_test rest true = by_head rest (same_item z.id j)
+    by_test rest true = state_head z (with_item x zs) zs j rest
     by_test rest false = state_behind x (z ∷ zs) j other
 
 -- Another state keeps the ids.

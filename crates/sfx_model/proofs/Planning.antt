@@ -30,7 +30,7 @@ use Rattle.sfx_model.specs.Results.{cell_at}
 use Rattle.sfx_model.specs.Units.{each_unit, at_unit}
 use Rattle.sfx_model.proofs.PerUnit.{get_at, get_each, any_none}
 use Rattle.sfx_model.proofs.Putting.{state_given, state_kept, rising_given}
-use Rattle.sfx_model.proofs.Shaping.{IsLiveUnit, IsLiveDraft, Shape, KeepsAll, LeavesAll, DropsAll, DeletesAll, TakesDead, MakesLive, IsShaped}
+use Rattle.sfx_model.proofs.Shaping.{IsLiveUnit, live_not_gone, IsLiveDraft, Shape, KeepsAll, LeavesAll, DropsAll, DeletesAll, TakesDead, MakesLive, IsShaped}
 use Rattle.sfx_model.proofs.Drafted.{none_pass, one_passes, listed_at}
 use Rattle.sfx_model.proofs.Clashing.{stamped_name}
 use Rattle.sfx_model.proofs.Counting.{AreIds, names_free, ids_given}
@@ -78,19 +78,12 @@ after_cases units v d seen here some shaped = by_shape shaped.shape
     long : length d.marks ≡ units
     long = shaped.long
 
-    not_gone : (k : Mark) (value : List ℕ) (a b : Option Cell) → IsLiveUnit k value a b → is_gone k ≡ false
-    not_gone Stays value a b is = refl
-    not_gone Taken value a b is = refl
-    not_gone Stamped value a b is = refl
-    not_gone Left value a b is = refl
-    not_gone Gone value a b is = absurd is
-
     live : (values : List (List ℕ)) → IsLiveDraft units seen here d values → AfterDraft units v d seen here
     live values is = by_tests (list_any is_taken d.marks) (list_any is_stamped d.marks) refl refl
       where
         none_gone : list_any is_gone d.marks ≡ false
         none_gone = any_none is_gone d.marks Stays (λ u small.
-            not_gone (at_unit d.marks u Stays) (at_unit values u []) (cell_at seen u) (cell_at here u) (is.each u (omega (arith, long))))
+            live_not_gone (at_unit d.marks u Stays) (at_unit values u []) (cell_at seen u) (cell_at here u) (is.each u (omega (arith, long))))
 
         made : brought units v d.marks d.values seen here ≡ Some (Live (cells_after units v d.marks values (cells_of seen) (cells_of here)))
         made = ap (λ (o : Option (List (List ℕ))). brought units v d.marks o seen here) is.are

@@ -8,7 +8,7 @@ use Rattle.sfx_model.specs.Members.{AreRising, IsIdBelow, state_of}
 use Rattle.sfx_model.specs.States.{with_state}
 use Rattle.sfx_model.specs.Putting.{put_for, put_item, drop_item, with_state_of}
 use Rattle.sfx_model.proofs.Steps.{same_item_is}
-use Rattle.sfx_model.proofs.Rising.{state_below, state_behind, item_with}
+use Rattle.sfx_model.proofs.Rising.{state_below, state_behind, state_head, item_with}
 use Rattle.sfx_model.proofs.Placing.{with_has, with_rising, with_found, with_others, state_rising, state_found, state_others}
 
 -- An item that is put is found, and the others stay.
@@ -76,19 +76,12 @@ pub drop_others : (i : ItemId) (xs : List MemberItem) (j : ItemId) → i ≢ j �
 drop_others i [] j other = refl
 drop_others i (x ∷ xs) j other = by_same (drop_others i xs j other) (same_item x.id i) refl
   where
-    by_head :
-        state_of (drop_item i xs) j ≡ state_of xs j
-        → (b : Bool)
-        → (if b then Some x.state else state_of (drop_item i xs) j) ≡ (if b then Some x.state else state_of xs j)
-    by_head rest true = refl
-    by_head rest false = rest
-
     by_same :
         state_of (drop_item i xs) j ≡ state_of xs j
         → (b : Bool) → same_item x.id i ≡ b → state_of (if b then xs else x ∷ drop_item i xs) j ≡ state_of (x ∷ xs) j
     by_same rest true e =
         sym (state_behind x xs j (λ same. other (sym (same_item_is x.id i e) ∙ same)))
-    by_same rest false e = by_head rest (same_item x.id j)
+    by_same rest false e = state_head x (drop_item i xs) xs j rest
 
 pub drop_has : (i : ItemId) (xs : List MemberItem) (y : MemberItem) → Has y (drop_item i xs) → Has y xs
 drop_has i [] y has = has

@@ -99,9 +99,19 @@ twice_refused ok =
       record { item = refl; unit = refl; version = refl },
     )
 
--- the unit count is 2 and not 3
-pub other_count : UnitsLegal run_world 3 → ⊥
+-- the unit count is 2 and not 4
+pub other_count : UnitsLegal run_world 4 → ⊥
 other_count legal = elim legal.said [
   | inl unsaid ↦ let bad : 2 ≡ 0 = unsaid.0 in cc
-  | inr same ↦ let bad : 2 ≡ 3 = same in cc
+  | inr same ↦ let bad : 2 ≡ 4 = same in cc
+]
+
+-- 3 is no unit count
+pub three_units : UnitsLegal empty_world 3 → ⊥
+three_units legal = elim legal.count [
+  | inl is ↦ let bad : 3 ≡ 1 = is in cc
+  | inr more ↦ elim more [
+    | inl is ↦ let bad : 3 ≡ 2 = is in cc
+    | inr last ↦ elim last [ inl is ↦ let bad : 3 ≡ 4 = is in cc | inr is ↦ let bad : 3 ≡ 8 = is in cc ]
+  ]
 ]

@@ -1,5 +1,5 @@
 -- Lists of items that rise by id, with equal look-ups, are equal lists.
-use Rattle.std.proofs.Common.{◌≡◌, ◌≢◌, ℕ, ◌⊎◌, Bool, List, [], ◌∷◌, Option, Some, None, true, false, inl, inr, refl, sym, ◌∙◌, ap, subst, arith}
+use Rattle.std.proofs.Common.{◌≡◌, ◌≢◌, ℕ, ◌⊎◌, Bool, List, [], ◌∷◌, Option, Some, None, true, false, if◌then◌else◌, inl, inr, refl, sym, ◌∙◌, ap, subst, arith}
 use Rattle.std.proofs.lemmas.Bool.{cases_order, false_from_ne_true}
 use Rattle.sfx_ids.specs.declared.item_id.ItemId.{ItemId}
 use Rattle.sfx_model.specs.Sets.{Has}
@@ -70,6 +70,19 @@ pub state_behind :
     → x.id ≢ i → state_of (x ∷ xs) i ≡ state_of xs i
 state_behind x xs i ne = rw (other_item x.id i ne) refl
 
+-- Lists that agree on an item agree on it behind one more
+pub state_head : (x : MemberItem) (xs ys : List MemberItem) (i : ItemId) → state_of xs i ≡ state_of ys i → state_of (x ∷ xs) i ≡ state_of (x ∷ ys) i
+state_head x xs ys i same = ap (λ (o : Option ItemState). if same_item x.id i then Some x.state else o) same
+
+-- An item before the head of a list in order is not in it
+before_head : (i : ItemId) (y : MemberItem) (ys : List MemberItem) → AreRising (y ∷ ys) → IsIdBelow i y.id → state_of (y ∷ ys) i ≡ None
+before_head i y ys rising lt =
+    state_below (y ∷ ys) i
+    (λ z has. elim has [
+      | inl is ↦ subst (λ (q : MemberItem). IsIdBelow i q.id) (sym is) lt
+      | inr there ↦ before_trans i y.id z.id lt (rising.0 z there)
+    ])
+
 -- Rising lists behind equal heads look up alike
 tails_alike :
     (x : MemberItem) (xs ys : List MemberItem)
@@ -112,25 +125,9 @@ rising_equal (x ∷ xs) (y ∷ ys) rising others alike =
           cc
       | inr apart ↦ elim apart [
         | inl lt ↦
-            let bad : Some x.state ≡ None =
-            sym (state_here x xs) ∙ alike x.id ∙ state_below (y ∷ ys) x.id
-            (λ z has. elim has [
-              | inl is ↦
-                  subst (λ (q : MemberItem). IsIdBelow x.id q.id) (sym is) lt
-              | inr there ↦
-                  before_trans x.id y.id z.id lt (others.0 z there)
-            ]) in
-            absurd (cc)
+            let bad : Some x.state ≡ None = sym (state_here x xs) ∙ alike x.id ∙ before_head x.id y ys others lt in absurd (cc)
         | inr gt ↦
-            let bad : Some y.state ≡ None =
-            sym (state_here y ys) ∙ sym (alike y.id) ∙ state_below (x ∷ xs) y.id
-            (λ z has. elim has [
-              | inl is ↦
-                  subst (λ (q : MemberItem). IsIdBelow y.id q.id) (sym is) gt
-              | inr there ↦
-                  before_trans y.id x.id z.id gt (rising.0 z there)
-            ]) in
-            absurd (cc)
+            let bad : Some y.state ≡ None = sym (state_here y ys) ∙ sym (alike y.id) ∙ before_head y.id x xs rising gt in absurd (cc)
       ]
     ]
 

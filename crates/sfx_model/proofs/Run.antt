@@ -1,5 +1,5 @@
 -- A short run from the empty world, and replicas that are new.
-use Rattle.std.proofs.Common.{◌≡◌, ◌≢◌, ℕ, Bool, true, false, if◌then◌else◌, [], ◌∷◌, inl, refl, sym, lit≤, lit<}
+use Rattle.std.proofs.Common.{◌≡◌, ◌≢◌, ℕ, Bool, true, false, if◌then◌else◌, [], ◌∷◌, inl, inr, refl, sym, lit≤, lit<}
 use Rattle.std.proofs.lemmas.Bool.{ne_eqb}
 use Rattle.sfx_ids.specs.declared.cut.Cut.TheVariants.{Start}
 use Rattle.sfx_ids.specs.Cut.{cut_le}
@@ -84,7 +84,7 @@ abbrev creating : Event
 creating = Make 10 run_item (run_version 1) (created_contents ((110 ∷ 49 ∷ []) ∷ (120 ∷ []) ∷ []))
 
 says : Continues empty_world (Units 2) (record { units = 2; members = [] })
-says = units_state empty_world (record { units = 0; members = [] }) 2 empty_well_formed (empty_state empty_world) (lit≤ tt) (inl refl)
+says = units_state empty_world (record { units = 0; members = [] }) 2 empty_well_formed (empty_state empty_world) (inr (inl refl)) (inl refl)
 
 joins : Continues said (Join 10) (run_state (fresh_member 10))
 joins =

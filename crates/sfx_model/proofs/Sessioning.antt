@@ -19,7 +19,7 @@ use Rattle.sfx_model.specs.declared.session_end.SessionEnd.{SessionEnd}
 use Rattle.sfx_model.specs.Sets.{Has}
 use Rattle.sfx_model.specs.World.{World, Site, Snapshot}
 use Rattle.sfx_model.specs.Events.{Event, Deed, after_all, is_in, seen_by}
-use Rattle.sfx_model.specs.Acting.{IsOrderly}
+use Rattle.sfx_model.specs.Acting.{IsInForm, IsOrderly}
 use Rattle.sfx_model.specs.Batch.{Batch, mode_of, is_forgotten_everywhere}
 use Rattle.sfx_model.specs.Class.{is_within}
 use Rattle.sfx_model.specs.Deeds.{batch_deeds, deeds_unless, deeds_from, events_with}
@@ -29,7 +29,7 @@ use Rattle.sfx_model.specs.Rules.{Rules}
 use Rattle.sfx_model.specs.Session.{Outcome, Course, begin, applied, tasks_of, with_batch, ending, ended, session_from}
 use Rattle.sfx_model.proofs.Batching.{GoesOn, KnowsMore, more_self, more_on, acts_none, acts_on, go_acts}
 use Rattle.sfx_model.proofs.Beginning.{ForgottenKnown, due_so_far}
-use Rattle.sfx_model.proofs.Comparing.{laid_has, laid_form}
+use Rattle.sfx_model.proofs.Comparing.{in_form, laid_has, laid_form}
 use Rattle.sfx_model.proofs.Due.{due_batch, due_from, due_fit}
 use Rattle.sfx_model.specs.Units.{every_unit}
 use Rattle.sfx_model.proofs.Knowing.{every_is, within_is}
@@ -41,7 +41,7 @@ use Rattle.sfx_model.proofs.Tasking.{TaskActs}
 
 pub due_acts :
     (w : World) (units : ℕ) (source : Member) (snapshot : Site) (mode : Mode) (rules : Rules) (size : ℕ) (budget : Option ℕ) (m : Member) (from : Cut)
-    → 1 ≤ size → source.id ≢ m.id → Ready w units source m snapshot → IsOrderly units source
+    → 1 ≤ size → source.id ≢ m.id → Ready w units source m snapshot → IsInForm units source
     → ForgottenKnown units mode source m (λ i. is_in (due_batch units source mode size m from).from (due_batch units source mode size m from).to i ≡ true)
     → GoesOn w units (events_with snapshot (batch_deeds units (due_batch units source mode size m from) rules budget m)) m
     (applied units (due_batch units source mode size m from) rules budget m).member
@@ -122,7 +122,7 @@ starts_within units forgotten known place u r form_f form_k at_f at_k small =
 -- A session's mode is as its start asks.
 pub mode_known :
     (units : ℕ) (source m : Member)
-    → IsOrderly units source → IsOrderly units m
+    → IsInForm units source → IsOrderly units m
     → ForgottenEverywhere units (mode_of units source.forgotten (laid_known units m)) source m
 mode_known units source m theirs ours =
     by_tests (is_forgotten_everywhere units source.forgotten (laid_known units m) (forgets_starts source.forgotten))
@@ -134,9 +134,9 @@ mode_known units source m theirs ours =
         → is_forgotten_everywhere units source.forgotten (laid_known units m) (starts_of (laid_known units m)) ≡ b
         → ForgottenEverywhere units (if a && b then Normal else Recover) source m
     by_tests true true at_f at_k = λ place u r at small.
-        subst (λ (t : ℕ). tick_of (fvec source.forgotten place) r ≤ t) (laid_has units m ours place u r at small)
+        subst (λ (t : ℕ). tick_of (fvec source.forgotten place) r ≤ t) (laid_has units m (in_form units m ours) place u r at small)
         (starts_within units source.forgotten (laid_known units m) place u r theirs.forgotten.segments
-        (laid_form units m ours).segments at_f at_k small)
+        (laid_form units m (in_form units m ours)).segments at_f at_k small)
     by_tests true false at_f at_k = tt
     by_tests false b at_f at_k = tt
 
@@ -163,7 +163,7 @@ nothing_goes w units source m snapshot ready =
 
 pub session_acts :
     (bound : ℕ) (w : World) (units : ℕ) (source : Member) (snapshot : Site) (mode : Mode) (rules : Rules) (size : ℕ) (c : Course) (from : Cut)
-    → 1 ≤ size → source.id ≢ c.member.id → Ready w units source c.member snapshot → IsOrderly units source
+    → 1 ≤ size → source.id ≢ c.member.id → Ready w units source c.member snapshot → IsInForm units source
     → ForgottenEverywhere units mode source c.member
     → GoesOn w units (events_with snapshot (deeds_from bound units source mode rules size c from)) c.member
     (session_from bound units source mode rules size c from).course.member

@@ -17,6 +17,7 @@ use Rattle.sfx_item.specs.Item.{ItemState, Live, Dead}
 use Rattle.sfx_model.specs.Members.{ItemRepresents}
 use Rattle.sfx_model.specs.Results.{cell_at}
 use Rattle.sfx_model.specs.Draft.{Draft, all_marked, values_of, value_in, whole_draft}
+use Rattle.sfx_model.specs.Entry.{is_gone}
 use Rattle.sfx_model.specs.Units.{at_unit}
 use Rattle.sfx_model.proofs.PerUnit.{at_get, at_replicate}
 use Rattle.sfx_model.proofs.Headline.{cell_there}
@@ -32,6 +33,13 @@ IsLiveUnit Taken value seen here = (c : Cell) × (seen ≡ Some c) × (c.value �
 IsLiveUnit Stamped value seen here = Unit {0}
 IsLiveUnit Left value seen here = (c : Cell) × (here ≡ Some c) × (c.value ≡ value)
 IsLiveUnit Gone value seen here = ⊥
+
+pub live_not_gone : (k : Mark) (value : List ℕ) (a b : Option Cell) → IsLiveUnit k value a b → is_gone k ≡ false
+live_not_gone Stays value a b is = refl
+live_not_gone Taken value a b is = refl
+live_not_gone Stamped value a b is = refl
+live_not_gone Left value a b is = refl
+live_not_gone Gone value a b is = absurd is
 
 -- The state is there and live.
 abbrev pub IsLiveOne : Option ItemState → Type 0

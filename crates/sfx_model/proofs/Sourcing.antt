@@ -6,7 +6,7 @@ use Rattle.sfx_ids.specs.declared.item_id.ItemId.{ItemId}
 use Rattle.sfx_knowledge.specs.Knowledge.{Known, HasTicks, IsKnowledge, tick_at}
 use Rattle.sfx_model.specs.World.{World, Site, WellFormed, IsSound}
 use Rattle.sfx_model.specs.Events.{Event, after_all, site_of}
-use Rattle.sfx_model.specs.Acting.{IsOrderly, Supplies}
+use Rattle.sfx_model.specs.Acting.{IsInForm, IsOrderly, Supplies}
 use Rattle.sfx_model.specs.Batch.{Batch}
 use Rattle.sfx_model.specs.Knowing.{laid_known}
 use Rattle.sfx_model.specs.Members.{Member, Represents, clock_of, shown, state_of, vector_at}
@@ -54,9 +54,9 @@ ready_on w units source m n snapshot es apart ready acts same =
       orderly = subst (λ (x : ℕ). IsOrderly x n) ready.count acts.orderly;
     }
 
-source_ticks : (w : World) (units : ℕ) (source : Member) → w.units ≡ units → IsOrderly units source → HasTicks w.units (laid_known units source) (vector_at source)
-source_ticks w units source count orderly =
-    subst (λ (n : ℕ). HasTicks n (laid_known units source) (vector_at source)) (sym count) (laid_has units source orderly)
+source_ticks : (w : World) (units : ℕ) (source : Member) → w.units ≡ units → IsInForm units source → HasTicks w.units (laid_known units source) (vector_at source)
+source_ticks w units source count form =
+    subst (λ (n : ℕ). HasTicks n (laid_known units source) (vector_at source)) (sym count) (laid_has units source form)
 
 -- The made-with knowledge backs each item of the snapshot.
 source_backs :
@@ -79,21 +79,21 @@ source_sound w units source m snapshot ready = ready.ok.sound snapshot (found w.
 -- The snapshot is carried with its state of each item.
 pub source_carried :
     (w : World) (units : ℕ) (source m : Member) (snapshot : Site) (b : Batch) (i : ItemId)
-    → Ready w units source m snapshot → IsOrderly units source → IsFrom units source b
+    → Ready w units source m snapshot → IsInForm units source → IsFrom units source b
     → Carried w snapshot i (tick_at b.made_with) (state_of source.items i)
-source_carried w units source m snapshot b i ready orderly from =
+source_carried w units source m snapshot b i ready form from =
     subst (λ (k : Known). Carried w snapshot i (tick_at k) (state_of source.items i)) (sym from.made_with) (record {
       sound = source_sound w units source m snapshot ready;
-      backs = source_backs w source snapshot (laid_known units source) i ready.ok ready.theirs (source_ticks w units source ready.count orderly);
+      backs = source_backs w source snapshot (laid_known units source) i ready.ok ready.theirs (source_ticks w units source ready.count form);
       state = ready.theirs.items i;
     })
 
 pub source_range :
     (w : World) (units : ℕ) (source m : Member) (snapshot : Site) (b : Batch) (lo hi : Cut)
-    → Ready w units source m snapshot → IsOrderly units source → IsFrom units source b
+    → Ready w units source m snapshot → IsInForm units source → IsFrom units source b
     → BacksRange w snapshot lo hi (tick_at b.made_with)
-source_range w units source m snapshot b lo hi ready orderly from =
-    let has = source_ticks w units source ready.count orderly in
+source_range w units source m snapshot b lo hi ready form from =
+    let has = source_ticks w units source ready.count form in
     subst (λ (k : Known). BacksRange w snapshot lo hi (tick_at k)) (sym from.made_with) (record {
       items = λ i within. source_backs w source snapshot (laid_known units source) i ready.ok ready.theirs has;
       bounded = λ place u r at small within.
@@ -102,11 +102,11 @@ source_range w units source m snapshot b lo hi ready orderly from =
 
 pub source_supplies :
     (w : World) (units : ℕ) (source m : Member) (snapshot : Site) (b : Batch)
-    → Ready w units source m snapshot → IsOrderly units source → IsFrom units source b → Supplies w snapshot b
-source_supplies w units source m snapshot b ready orderly from = record {
+    → Ready w units source m snapshot → IsInForm units source → IsFrom units source b → Supplies w snapshot b
+source_supplies w units source m snapshot b ready form from = record {
   made_with = subst (λ (k : Known). IsKnowledge w.units k) (sym from.made_with)
-      (subst (λ (n : ℕ). IsKnowledge n (laid_known units source)) (sym ready.count) (laid_form units source orderly));
-  forgotten = rw from.forgotten orderly.forgotten;
+      (subst (λ (n : ℕ). IsKnowledge n (laid_known units source)) (sym ready.count) (laid_form units source form));
+  forgotten = rw from.forgotten form.forgotten;
   same = rw from.forgotten (record {
     same = λ place r at within. ready.theirs.header.forgotten place r at;
     bounded = λ place r at within. ready.theirs.bounded.forgotten place r at;

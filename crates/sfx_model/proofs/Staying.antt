@@ -62,7 +62,7 @@ pub carried_stays :
 carried_stays w (Units units) snapshot i made_with seen ok legal keeps carried =
     subst (λ (n : ℕ). Carried (record w { units = n }) snapshot i made_with seen) (sym keeps) carried
 carried_stays w (Widen more) snapshot i made_with seen ok legal keeps carried =
-    let some = legal.some in absurd (omega (arith, keeps))
+    let greater = legal.greater in absurd (omega (arith, keeps, greater))
 carried_stays w (Join id) snapshot i made_with seen ok legal keeps carried = record {
   sound = carried.sound;
   backs = record {

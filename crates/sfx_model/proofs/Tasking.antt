@@ -31,7 +31,7 @@ use Rattle.sfx_model.specs.Snapshots.{Carried}
 use Rattle.sfx_model.specs.States.{next_version}
 use Rattle.sfx_model.proofs.Applying.{forgotten_too, forget_acts, forgotten_form, entered, IsKnownItem, Enters, entry_acts, changing, AreWaiting, OthersAct, others_act}
 use Rattle.sfx_model.proofs.Clashing.{plan_fits}
-use Rattle.sfx_model.proofs.Comparing.{laid_has}
+use Rattle.sfx_model.proofs.Comparing.{in_form, laid_has}
 use Rattle.sfx_model.proofs.Counting.{AreIds, ids_given, seen_fits, held_fits, member_ids}
 use Rattle.sfx_model.proofs.Fitting.{Fits, change_fits, unlisted_fits}
 use Rattle.sfx_model.proofs.Forgetting.{forgot_all}
@@ -90,12 +90,12 @@ draft_fits :
 draft_fits w s snapshot b rules m (Change item) ok has rep orderly supplies fits =
     change_fits w s (forgotten_too b.mode b.forgotten m) snapshot rules item (laid_known w.units m) b.made_with
     (state_of m.items item.id)
-    (record { ok = ok; meets = record { here = has; represents = rep; carried = fits }; knows = laid_has w.units m orderly }) refl
+    (record { ok = ok; meets = record { here = has; represents = rep; carried = fits }; knows = laid_has w.units m (in_form w.units m orderly) }) refl
 draft_fits w s snapshot b rules m (Unlisted i) ok has rep orderly supplies (carried, mode, local, is) =
     subst (λ (o : Option ItemState). Fits w s snapshot i None o (absent_draft w.units rules.keep (unlisted_class w.units (laid_known w.units m) b i o) o))
     (sym is)
     (unlisted_fits w s (forgotten_too b.mode b.forgotten m) snapshot rules.keep i (laid_known w.units m) b.made_with b.forgotten local
-    (record { ok = ok; meets = record { here = has; represents = rep; carried = carried }; knows = laid_has w.units m orderly }) is
+    (record { ok = ok; meets = record { here = has; represents = rep; carried = carried }; knows = laid_has w.units m (in_form w.units m orderly) }) is
     (λ r. supplies.same.same (At i) r tt (everywhere (At i) tt))
     (λ r. forgotten_here w s snapshot b m b.mode i r mode orderly supplies))
 
@@ -103,7 +103,7 @@ not_less : (x y : ℕ) → nat_lt x y ≡ false → y ≤ x
 not_less x y e = grind (arith, nat_tests)
 
 -- The ticks that a plan needs are left.
-room_left : (p : Plan) (clock : ℕ) → clock ≤ max_tick → lacks p clock ≡ false → clock_after p.draft.marks clock + length p.others ≤ max_tick
+pub room_left : (p : Plan) (clock : ℕ) → clock ≤ max_tick → lacks p clock ≡ false → clock_after p.draft.marks clock + length p.others ≤ max_tick
 room_left p clock fits enough = by_stamp (list_any is_stamped p.draft.marks) enough
   where
     by_stamp :

@@ -13,6 +13,7 @@ use Rattle.sfx_model.specs.Members.{Member, NamedMember, Community, AreRising, s
 use Rattle.sfx_model.specs.Replica.{IsNewMember, IsOfOthers, RepresentsReplica, ActsIn}
 use Rattle.sfx_model.specs.Standing.{HasNoOtherUnits, StandsIn, StateStandsIn}
 use Rattle.sfx_model.specs.States.{with_added, Continues, ChangesMember, IsOf, Rises, with_item, with_state, next_created, cells_with, IsNewState, next_version, next_item, created_contents, edited_contents, deleted_contents}
+use Rattle.sfx_model.specs.Units.{IsUnitCount}
 use Rattle.sfx_model.proofs.Keeping.{event_keeps}
 use Rattle.sfx_model.proofs.Sets.{has_either}
 use Rattle.sfx_model.proofs.Sites.{found}
@@ -40,11 +41,11 @@ stands_on w e m ok legal other stands = record {
 -- The unit count is said, or said again.
 pub units_state :
     (w : World) (c : Community) (units : ℕ)
-    → WellFormed w → StateStandsIn w c → 1 ≤ units → HasNoOtherUnits w units
+    → WellFormed w → StateStandsIn w c → IsUnitCount units → HasNoOtherUnits w units
     → Continues w (Units units) (record { units = units; members = c.members })
-units_state w c units ok stands some fits =
+units_state w c units ok stands count fits =
     let legal : Legal w (Units units) = record {
-      some = some;
+      count = count;
       said = elim fits [
         | inl unsaid ↦ inl (unsaid, no_sites w w.sites ok.counted unsaid)
         | inr same ↦ inr same

@@ -4,8 +4,6 @@ use Rattle.std.proofs.lemmas.Bool.{cases_Bool}
 use Rattle.std.specs.Fmt.{digits}
 use Rattle.std.specs.Fmt.Cut.{floor_char_boundary}
 use Rattle.sfx_ids.specs.declared.item_id.ItemId.{ItemId}
-use Rattle.sfx_knowledge.proofs.Forgets.{nothing_form}
-use Rattle.sfx_knowledge.proofs.Known.{IsKnowledge-nothing}
 use Rattle.sfx_item.specs.Decided.{is_clash}
 use Rattle.sfx_item.specs.Item.{ItemState, MemberItem}
 use Rattle.sfx_item.specs.Renamed.{renamed}
@@ -36,7 +34,7 @@ use Rattle.sfx_model.proofs.Due.{has_map}
 use Rattle.sfx_model.proofs.Parts.{split_state}
 use Rattle.sfx_model.proofs.Turns.{create_turn, edit_turn, join_state, units_state}
 use Rattle.sfx_model.proofs.Concluding.{session_state}
-use Rattle.sfx_model.proofs.CutRun.{cut_acts, reader_orderly}
+use Rattle.sfx_model.proofs.CutRun.{alone_orderly, cut_acts, reader_orderly}
 use Rattle.sfx_model.proofs.Run.{new_state}
 
 -- ---- the replicas
@@ -52,15 +50,7 @@ one_apart x i j s t a b differ at_i at_j named_i named_j clashes = differ (is_it
     ]
 
 author_orderly : IsOrderly 2 author
-author_orderly = record {
-  some = lit≤ tt;
-  id = lit< tt;
-  clock = lit≤ tt;
-  knowledge = IsKnowledge-nothing 2;
-  forgotten = nothing_form;
-  rising = (λ y has. absurd has, tt);
-  names = one_apart _;
-}
+author_orderly = alone_orderly 12 2 author.items (lit< tt) (lit≤ tt) (λ y has. absurd has, tt) (one_apart _)
 
 abbrev beginner : Member
 beginner = alone 12 1 (created_of 1 12 (codes "n1") ∷ [])
@@ -145,7 +135,7 @@ new_13 s has same = elim (has_either s cut_world.sites (new_site 12 ∷ []) has)
 
 said : Continues cut_world (Units 2) (with_members [])
 said =
-    units_state cut_world first_state 2 cut_acts.well_formed cut_acts.stands (lit≤ tt)
+    units_state cut_world first_state 2 cut_acts.well_formed cut_acts.stands (inr (inl refl))
     (inr (sym (counted cut_world first_state _ cut_acts.stands (inl refl))))
 
 join_12 : Continues w1 (Join 12) (with_members (named_a (alone 12 0 []) ∷ []))

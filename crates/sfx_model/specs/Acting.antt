@@ -31,6 +31,15 @@ use Rattle.sfx_model.specs.States.{IsDeedOf}
 use Rattle.sfx_model.specs.Units.{at_unit}
 use Rattle.sfx_model.specs.World.{Site, Snapshot, World, WellFormed}
 
+-- The member is in its form: id and clock are in range, what it knows and has forgotten stands in its one
+-- form, and its items are in order of their ids. Its live names may clash.
+pub record IsInForm (units : ℕ) (m : Member) : Type 0 where
+  pub id : m.id < 2 ^ 128
+  pub clock : m.clock ≤ max_tick
+  pub knowledge : IsKnowledge units m.knowledge
+  pub forgotten : AreForgets m.forgotten
+  pub rising : AreRising m.items
+
 -- The lists of the member are in order: id and clock are in range, what it knows and has forgotten stands
 -- in its one form, its items are in order of their ids, and its live names do not clash.
 pub record IsOrderly (units : ℕ) (m : Member) : Type 0 where
@@ -140,7 +149,7 @@ pub record TakePart (w : World) (units : ℕ) (source m : Member) : Type 0 where
 -- mode Normal the destination knows the deletions that the batch has forgotten.
 pub record Brings (w : World) (units : ℕ) (source m : Member) (b : Batch) : Type 0 where
   pub part : TakePart w units source m
-  pub orderly : IsOrderly units source
+  pub form : IsInForm units source
   pub size : ℕ
   pub some : 1 ≤ size
   pub due : IsDue units source m size b

@@ -8,6 +8,7 @@ use Rattle.sfx_ids.specs.Cut.{is_between}
 use Rattle.sfx_ids.specs.ItemId.{creation_of}
 use Rattle.sfx_ids.specs.Tick.{max_tick}
 use Rattle.sfx_model.specs.Sets.{Has, IsPart}
+use Rattle.sfx_model.specs.Units.{IsUnitCount}
 use Rattle.sfx_model.specs.World.{Content, Written, Deleted, Record, Site, Snapshot, World, IsDeadAt, IsLiveHolding, IsForgotten, IsSound, holding}
 
 -- What an applied entry does with one unit of its item. What the snapshot knows of the unit is learned,
@@ -282,15 +283,16 @@ after w (Forget r snapshot lo hi) = at_site w (site_of w.sites r) (λ s. forgot 
 after w (Apply r snapshot i v marks) = at_site w (site_of w.sites r) (λ s. applied w s snapshot i v marks)
 after w (Learn r snapshot lo hi left) = at_site w (site_of w.sites r) (λ s. learned w s snapshot lo hi left)
 
--- Units may be said before any replica joins, or said again as they are.
+-- A unit count may be said before any replica joins, or said again as it is.
 pub record UnitsLegal (w : World) (units : ℕ) : Type 0 where
-  pub some : 1 ≤ units
+  pub count : IsUnitCount units
   pub said : ((w.units ≡ 0) × (w.sites ≡ [])) ⊎ (w.units ≡ units)
 
--- A community that has units may get more.
+-- A community that has units may get more, up to a greater unit count.
 pub record WidenLegal (w : World) (more : ℕ) : Type 0 where
   pub said : 1 ≤ w.units
-  pub some : 1 ≤ more
+  pub count : IsUnitCount (w.units + more)
+  pub greater : w.units < w.units + more
 
 -- No replica of the world has this id.
 abbrev pub IsNewId : World → ℕ → Type 0

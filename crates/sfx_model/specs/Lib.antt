@@ -24,8 +24,11 @@ pub mod Putting
 pub mod Entry
 pub mod Moments
 pub mod Session
+pub mod Achieved
 pub mod SessionExamples
+pub mod RecoveryExamples
 pub mod CutRun
 pub mod TwoStates
 pub mod Deeds
 pub mod Acting
+pub mod Undisturbed

@@ -1,7 +1,11 @@
--- What is said of each unit of an item, unit by unit.
-use Rattle.std.specs.Prelude.{ℕ, zero, suc, Bool, true, ◌&&◌, List, map, slice_get}
+-- How many units items can have, and what is said of each unit of an item, unit by unit.
+use Rattle.std.specs.Prelude.{◌≡◌, ◌⊎◌, ℕ, zero, suc, Bool, true, ◌&&◌, List, map, slice_get}
 use Rattle.std.specs.List.{range_with_len}
 use Rattle.std.specs.Option.{unwrap_or}
+
+-- Items have 1, 2, 4 or 8 units.
+abbrev pub IsUnitCount : ℕ → Type 0
+IsUnitCount u = (u ≡ 1) ⊎ ((u ≡ 2) ⊎ ((u ≡ 4) ⊎ (u ≡ 8)))
 
 -- What the function gives for each of the units, in order.
 abbrev pub each_unit : {A : Type 0} → ℕ → (ℕ → A) → List A

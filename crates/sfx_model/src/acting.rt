@@ -1,7 +1,7 @@
 ghost use Rattle.std.specs.Prelude.{◌≡◌, ◌≢◌, ℕ, ◌≤◌, ◌++◌, List, [], ◌∷◌, map, codes, true, false, IsSomeAnd, Option, None, Some};
 ghost use Rattle.sfx_ids.specs.declared.item_id.ItemId.{ItemId};
 ghost use Rattle.sfx_knowledge.specs.Knowledge.{tick_at};
-ghost use Rattle.sfx_model.specs.Acting.{DeedsActIn, DeedsContinue, EntryActs, HasTicksLeft, IsDue, IsMemberOf, IsOrderly, KnowsForgotten, LearnsItem, RangeActs, RangeFits, Supplies};
+ghost use Rattle.sfx_model.specs.Acting.{DeedsActIn, DeedsContinue, EntryActs, HasTicksLeft, IsDue, IsInForm, IsMemberOf, IsOrderly, KnowsForgotten, LearnsItem, RangeActs, RangeFits, Supplies};
 ghost use Rattle.sfx_model.specs.Batch.{Batch};
 ghost use Rattle.sfx_model.specs.Consistent.{IsConsistent};
 ghost use Rattle.sfx_model.specs.CutRun.{before_cut, contained, created_records, cut_community, cut_deeds, cut_member, cut_world, got, known_names, present_items, world_before};
@@ -30,10 +30,10 @@ pub fn consistent_members_are_orderly()
     ensures { (units : ℕ) (m : Member) → IsConsistent units m → IsOrderly units m }
 {}
 
-/// What an applied entry does in every well-formed world, under every rule, as a law: its events may happen
-/// one after another, the world after them is well-formed, and there the destination as the definition of
-/// the entry has it represents its site, with lists in order and live names that do not clash. It does
-/// nothing when called.
+/// What an applied entry does in every well-formed world, in either mode and under every rule, as a law: its
+/// events may happen one after another, the world after them is well-formed, and there the destination as the
+/// definition of the entry has it represents its site, with lists in order and live names that do not clash.
+/// It does nothing when called.
 ///
 /// `change`: the entry is a change of an item that the snapshot has in this state. `unlisted`: it is of an
 /// item that the snapshot lacks and the destination holds, in recovery. `learned`: afterwards all that the
@@ -73,19 +73,20 @@ pub fn ranges_act()
 /// sites, as a law: where the batch is the one that is due from the source, its deeds may happen one after
 /// another, and the world after them is well-formed; there the source still represents its site, and so
 /// does the destination as it is then, with its lists in order and live names that do not clash. It holds
-/// however the batch ends: whole, cut, or for want of ticks. It does nothing when called.
+/// however the batch ends: whole, cut, or for want of ticks. The source's live names may clash. It does
+/// nothing when called.
 pub fn batches_act()
     ensures { (w : World) (source m : Member) (b : Batch) (rules : Rules) (size : ℕ) (budget : Option ℕ) →
         WellFormed w → source.id ≢ m.id →
         RepresentsReplica w source.id (shown source) → RepresentsReplica w m.id (shown m) →
-        IsOrderly w.units source → IsOrderly w.units m →
+        IsInForm w.units source → IsOrderly w.units m →
         1 ≤ size → IsDue w.units source m size b → KnowsForgotten w.units b m →
         DeedsActIn w (batch_deeds w.units b rules budget m) source m.id (applied w.units b rules budget m).member }
 {}
 
 /// What a session does in every well-formed world in which source and destination represent their sites, as
 /// a law: its deeds may happen one after another, and the world after them is well-formed. It holds under
-/// every rule and however the session ends. It does nothing when called.
+/// every rule, in either mode, and whether the session is done, cut or full. It does nothing when called.
 ///
 /// `session`: afterwards the source still represents its site, and so does the destination as it is then,
 /// with its lists in order and live names that do not clash. `state`: a state that stands, of which source and

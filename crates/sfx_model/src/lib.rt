@@ -3,6 +3,7 @@
 #![tactic(auto)]
 
 pub use absent::Absent;
+pub use achieved::knowledge_is_joined;
 pub use acting::{
     batches_act, consistent_members_are_orderly, cut_run, entries_act, none_is_ahead, ranges_act,
     sessions_act, two_states,
@@ -14,6 +15,10 @@ pub use keep::Keep;
 pub use mark::Mark;
 pub use members::{edits_act, knowledge_is_exact, members_stand, state_stands, states_part};
 pub use mode::Mode;
+pub use recovery::{
+    clocks_on_examples, deletions_on_examples, moments_on_examples, recovery_on_examples,
+    taken_names_on_examples,
+};
 pub use results::results_follow;
 pub use session_end::SessionEnd;
 pub use sessions::{
@@ -21,10 +26,12 @@ pub use sessions::{
     moments_join, sessions_on_examples,
 };
 pub use snapshots::{marks_are_legal, snapshots_stay};
+pub use undisturbed::undisturbed_sessions;
 pub use unit_class::UnitClass;
 pub use world::{events_keep, examples, marks_agree, short_run};
 
 mod absent;
+mod achieved;
 mod acting;
 mod apply_end;
 mod clash_rule;
@@ -33,9 +40,11 @@ mod keep;
 mod mark;
 mod members;
 mod mode;
+mod recovery;
 mod results;
 mod session_end;
 mod sessions;
 mod snapshots;
+mod undisturbed;
 mod unit_class;
 mod world;

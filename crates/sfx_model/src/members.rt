@@ -17,6 +17,7 @@ ghost use Rattle.sfx_model.specs.Results.{Backs, BacksForgotten, BacksRange, Cle
 ghost use Rattle.sfx_model.specs.Sets.{Has, IsPart};
 ghost use Rattle.sfx_model.specs.Standing.{AreDisjoint, AreIdsApart, AreOfOthers, HasMember, HasNoOtherUnits, IsWhole, StateStandsIn, together};
 ghost use Rattle.sfx_model.specs.States.{ChangesMember, Continues, IsNewState, IsOf, Rises, cells_with, created_contents, deleted_contents, edited_contents, member_named, next_created, next_item, next_version, with_added, with_changed, with_item, with_state};
+ghost use Rattle.sfx_model.specs.Units.{IsUnitCount};
 ghost use Rattle.sfx_model.specs.World.{Content, Site, Snapshot, WellFormed, World, holding};
 ghost use Rattle.sfx_segments.specs.Segments.{IsPlace};
 ghost use Rattle.sfx_vector.specs.Clocks.{tick_of};
@@ -127,7 +128,7 @@ pub fn edits_act()
 pub fn state_stands()
     ensures empty { (w : World) → StateStandsIn w (record { units = 0; members = [] }) }
     ensures units { (w : World) (c : Community) (units : ℕ) →
-        WellFormed w → StateStandsIn w c → 1 ≤ units → HasNoOtherUnits w units →
+        WellFormed w → StateStandsIn w c → IsUnitCount units → HasNoOtherUnits w units →
         Continues w (Units units) (record { units = units; members = c.members }) }
     ensures joined { (w : World) (c : Community) (name : List ℕ) (id : ℕ) (m : Member) →
         WellFormed w → StateStandsIn w c → 1 ≤ c.units → IsNewId w id → IsNewState c.units id m →

@@ -32,8 +32,8 @@ pub fn marks_agree()
 /// made twice at one cell.
 ///
 /// In a world of two units, `units` may be said again as it is (`again`), and with no other count
-/// (`recount`). A state with one id in both of its members stands nowhere (`twins`). Nothing happens
-/// when this function is called.
+/// (`recount`). Items cannot have three units (`three`). A state with one id in both of its members
+/// stands nowhere (`twins`). Nothing happens when this function is called.
 pub fn examples()
     ensures edit { WellFormed (example_world edited 2 (example_version 2 ∷ example_version 1 ∷ []) true 0) }
     ensures cleanup { WellFormed (example_world deleted 2 (example_version 2 ∷ example_version 1 ∷ []) false 2) }
@@ -45,7 +45,8 @@ pub fn examples()
         (example_record 1 (Written (98 ∷ [])) [] ∷ example_record 1 (Written (97 ∷ [])) [] ∷ []) 1
         (example_version 1 ∷ []) true 0) }
     ensures again { Legal run_world (Units 2) }
-    ensures recount { ¬ Legal run_world (Units 3) }
+    ensures recount { ¬ Legal run_world (Units 4) }
+    ensures three { ¬ Legal empty_world (Units 3) }
     ensures twins { (w : World) → ¬ StateStandsIn w twins }
 {}
 

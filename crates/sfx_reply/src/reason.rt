@@ -1,4 +1,4 @@
-ghost use Rattle.std.specs.Prelude.{◌≡◌, ◌++◌, OnOk};
+ghost use Rattle.std.specs.Prelude.{◌≡◌, ◌++◌, IfOk, OnOk};
 ghost use Rattle.sfx_replica.specs.declared.edit_fault.EditFault.TheVariants.{Clash};
 ghost use Rattle.sfx_reply.specs.declared.reason.Reason.TheVariants.{NoReplica};
 ghost use Rattle.sfx_reply.specs.Reply.{fault_text, reason_text, session_text, with_number, with_numbers};
@@ -8,6 +8,7 @@ use sfx_ids::{ItemId, Memory, write_item};
 use sfx_outside::Text;
 use sfx_replica::EditFault;
 use sfx_session::SessionFault;
+use std::alloc::Global;
 
 /// Why a line of a script is refused. Nothing has changed then.
 #[derive(Drop)]
@@ -37,6 +38,31 @@ pub enum Reason {
 }
 
 impl Reason {
+    /// An equal reason of its own memory.
+    ///
+    /// # Errors
+    /// `Memory`.
+    pub fn copy(&self, alloc: Global) -> Result<Self, Memory>
+        ensures { IfOk result (λ copy. copy ≡ self.now) }
+    {
+        match self {
+            Reason::Syntax(at) => Ok(Reason::Syntax(*at)),
+            Reason::NotBuilt => Ok(Reason::NotBuilt),
+            Reason::BadUnits(n) => Ok(Reason::BadUnits(*n)),
+            Reason::UnitsSet => Ok(Reason::UnitsSet),
+            Reason::NoUnits => Ok(Reason::NoUnits),
+            Reason::NameTaken => Ok(Reason::NameTaken),
+            Reason::IdTaken => Ok(Reason::IdTaken),
+            Reason::NoReplica(name) => Ok(Reason::NoReplica(name.copy(alloc)?)),
+            Reason::BadCount { given, units } => {
+                let (given, units) = (*given, *units);
+                Ok(Reason::BadCount { given, units })
+            }
+            Reason::Edit(fault) => Ok(Reason::Edit(*fault)),
+            Reason::Session(fault) => Ok(Reason::Session(*fault)),
+        }
+    }
+
     /// Appends the text of the reason. The one error is want of memory; a part may be appended then.
     pub fn write(&self, out: &mut Vec<u8>) -> Result<(), Memory>
         ensures { OnOk result (out.new.items ≡ out.old.items ++ reason_text self.now) }

@@ -1,4 +1,4 @@
-ghost use Rattle.std.specs.Prelude.{◌≡◌, ◌++◌, OnOk};
+ghost use Rattle.std.specs.Prelude.{◌≡◌, ◌++◌, IfOk, OnOk};
 ghost use Rattle.sfx_reply.specs.declared.reply.Reply.TheVariants.{Changed, Compared, Created, Known, Refused};
 ghost use Rattle.sfx_reply.specs.Reply.{reply_text, yes_or_no};
 
@@ -6,6 +6,7 @@ use crate::reason::Reason;
 use crate::text::{append, newline};
 use sfx_ids::{ItemId, Memory, Version, write_item, write_version};
 use sfx_model::SessionEnd;
+use std::alloc::Global;
 use std::marker::Model;
 
 /// A text of many lines, with their ends: it shows a replica, or tells what a session did.
@@ -33,6 +34,18 @@ impl Listing {
         ensures { result.now ≡ self.now }
     {
         self.text.as_slice()
+    }
+
+    /// An equal listing of its own memory.
+    ///
+    /// # Errors
+    /// `Memory`.
+    pub fn copy(&self, alloc: Global) -> Result<Self, Memory>
+        ensures { IfOk result (λ copy. copy ≡ self.now) }
+    {
+        Ok(Listing {
+            text: Vec::from_slice(alloc, self.text.as_slice())?,
+        })
     }
 }
 
@@ -68,6 +81,31 @@ impl Reply {
             Reply::Refused(_) => true,
             Reply::Synced { end, .. } => matches!(end, SessionEnd::Full(_)),
             _ => false,
+        }
+    }
+
+    /// An equal reply of its own memory.
+    ///
+    /// # Errors
+    /// `Memory`.
+    pub fn copy(&self, alloc: Global) -> Result<Self, Memory>
+        ensures { IfOk result (λ copy. copy ≡ self.now) }
+    {
+        match self {
+            Reply::Done => Ok(Reply::Done),
+            Reply::Created(item) => Ok(Reply::Created(*item)),
+            Reply::Changed(version) => Ok(Reply::Changed(*version)),
+            Reply::Known(known) => Ok(Reply::Known(*known)),
+            Reply::Compared { knowledge, items } => {
+                let (knowledge, items) = (*knowledge, *items);
+                Ok(Reply::Compared { knowledge, items })
+            }
+            Reply::Shown(listing) => Ok(Reply::Shown(listing.copy(alloc)?)),
+            Reply::Synced { report, end } => {
+                let (report, end) = (report.copy(alloc)?, *end);
+                Ok(Reply::Synced { report, end })
+            }
+            Reply::Refused(reason) => Ok(Reply::Refused(reason.copy(alloc)?)),
         }
     }
 

@@ -1,6 +1,7 @@
 -- What is known of a source that may tell what it has left.
-use Rattle.std.proofs.Common.{◌≡◌, ◌⊎◌, false, nat_eq, Option, Some, None, IfSome, inl, inr, ap, subst, arith}
+use Rattle.std.proofs.Common.{◌≡◌, ◌⊎◌, ℕ, false, nat_eq, List, [], Option, Some, None, IfSome, inl, inr, refl, ap, subst, arith}
 use Rattle.std.proofs.lemmas.Bool.Decides.{nat_tests}
+use Rattle.sfx_outside.specs.Source.{TakesAtMost}
 use Rattle.sfx_run.specs.declared.status.Status.{Status}
 use Rattle.sfx_run.specs.declared.status.Status.TheVariants.{Memory, SinkFault}
 use Rattle.sfx_run.specs.Status.{HasBrokenOff, HasNotBegun, IsAnswered, number_of}
@@ -37,3 +38,8 @@ pub answered_or_memory : (s : Status) → IsAnswered s ⊎ HasBrokenOff s → (s
 answered_or_memory s (inl answered) fine = inl answered
 answered_or_memory s (inr (inl is)) fine = absurd (fine is)
 answered_or_memory s (inr (inr is)) fine = inr is
+
+-- where nothing is read, no more than so much is
+pub takes_nothing : (most : ℕ) (left : Option (List ℕ)) → TakesAtMost most left left
+takes_nothing most None = ([], omega arith, refl)
+takes_nothing most (Some rest) = ([], omega arith, refl)

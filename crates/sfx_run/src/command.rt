@@ -1,16 +1,17 @@
-ghost use Rattle.std.specs.Prelude.{◌≡◌, ◌<◌, ◌≤◌, ◌⊎◌, ◌↔◌, true, false, length, map, string_bytes, IfSome, IsTrue};
+ghost use Rattle.std.specs.Prelude.{◌≡◌, ◌<◌, ◌≤◌, ◌⊎◌, ◌↔◌, ◌+◌, ℕ, true, false, length, map, string_bytes, IfSome, IsTrue};
 ghost use Rattle.sfx_outside.specs.Fault.{HasRisen};
-ghost use Rattle.sfx_outside.specs.Sink.{Adds, AddsFront};
-ghost use Rattle.sfx_outside.specs.Source.{IsAtEnd};
+ghost use Rattle.sfx_outside.specs.Sink.{Adds};
+ghost use Rattle.sfx_outside.specs.Source.{IsAtEnd, TakesAtMost};
 ghost use Rattle.sfx_model.specs.World.{World, WellFormed};
 ghost use Rattle.sfx_community.specs.History.{AllFit, AreNotAhead, HasHappened, IsAllOf};
-ghost use Rattle.sfx_run.specs.Run.{has_refusal, is_play, played, played_text};
-ghost use Rattle.sfx_community.specs.State.{community_of};
+ghost use Rattle.sfx_run.specs.Run.{BrokeOff, WantedMemory, has_refusal, is_play, played, played_text, played_to};
+ghost use Rattle.sfx_community.specs.State.{State, community_of};
 ghost use Rattle.sfx_community.specs.Turn.{empty_state};
 ghost use Rattle.sfx_run.specs.Status.{HasBrokenOff, HasNotBegun, IsAnswered};
 
-use crate::play::play;
+use crate::lines::play;
 use crate::status::Status;
+use sfx_community::State;
 use sfx_outside::{ReadFault, Sink, SinkFault, Source, read_to_end};
 use std::alloc::Global;
 
@@ -34,14 +35,15 @@ pub fn run<A: Source, B: Sink>(
     ensures done { result ≡ Status.Done →
         IfSome (A.left input.old) (λ script. has_refusal (played script).replies ≡ false) }
 
-    // What the script does happens in every well-formed world which it fits: one with no unit count but that
-    // of the script, and with no replica of an id that the script adds. All replicas there are kept elsewhere.
-    ensures history { IsAnswered result → IfSome (A.left input.old) (λ script. (w : World) →
-        WellFormed w → AllFit w (played script).deeds → HasHappened w empty_state (played script)) }
+    // What the first so many lines do, for any number of them, happens in every well-formed world which they
+    // fit: one with no unit count but that of the script, and with no replica of an id that they add. All
+    // replicas there are kept elsewhere.
+    ensures history { IsAnswered result → IfSome (A.left input.old) (λ script. (w : World) (count : ℕ) →
+        WellFormed w → AllFit w (played_to count script).deeds → HasHappened w empty_state (played_to count script)) }
 
-    // It fits each world of which the state at the start is all: one with no replica and no unit count yet.
-    ensures whole { IsAnswered result → IfSome (A.left input.old) (λ script. (w : World) →
-        WellFormed w → IsAllOf w (community_of empty_state) → AllFit w (played script).deeds) }
+    // They fit each world of which the state at the start is all: one with no replica and no unit count yet.
+    ensures whole { IsAnswered result → IfSome (A.left input.old) (λ script. (w : World) (count : ℕ) →
+        WellFormed w → IsAllOf w (community_of empty_state) → AllFit w (played_to count script).deeds) }
 
     // No session of a script is refused because its source knows more of the destination than that made.
     ensures not_ahead { IsAnswered result →
@@ -55,10 +57,17 @@ pub fn run<A: Source, B: Sink>(
     ensures fits { (IsAnswered result ⊎ (result ≡ Status.SinkFault)) →
         IfSome (A.left input.old) (λ script. length script ≤ MAX_INPUT) }
 
-    // What is written then, and what is read.
+    // What is written then. Where the output failed, the replies of some lines were written whole, and a front
+    // of the next one; where memory ran out, so it is, or none of the next, or nothing was written at all.
     ensures silent { HasNotBegun result → B.held out.new ≡ B.held out.old }
-    ensures broken_off { HasBrokenOff result →
-        IfSome (A.left input.old) (λ script. AddsFront (B.held out.old) (B.held out.new) (played_text script)) }
+    ensures broken_off { result ≡ Status.SinkFault → IfSome (A.left input.old) (λ script.
+        (s : State) × BrokeOff empty_state script (B.held out.old) (B.held out.new) s) }
+    ensures memory { result ≡ Status.Memory → (B.held out.new ≡ B.held out.old)
+        ⊎ IfSome (A.left input.old) (λ script.
+        (s : State) × WantedMemory empty_state script (B.held out.old) (B.held out.new) s) }
+
+    // What is read.
+    ensures taken { TakesAtMost (MAX_INPUT + 1) (A.left input.old) (A.left input.new) }
     ensures unread { result ≡ Status.Usage → A.left input.new ≡ A.left input.old }
 
     // Where no end fails and the input is not too long, every line is answered, or memory runs out.
@@ -90,10 +99,14 @@ fn answer<B: Sink>(alloc: Global, script: &[u8], out: &mut B) -> Status
     ensures answered { IsAnswered result → Adds (B.held out.old) (B.held out.new) (played_text script.now) }
     ensures refused { result ≡ Status.Refused → has_refusal (played script.now).replies ≡ true }
     ensures done { result ≡ Status.Done → has_refusal (played script.now).replies ≡ false }
-    ensures broken_off { HasBrokenOff result → AddsFront (B.held out.old) (B.held out.new) (played_text script.now) }
+    ensures broken_off { result ≡ Status.SinkFault →
+        (s : State) × BrokeOff empty_state script.now (B.held out.old) (B.held out.new) s }
+    ensures memory { result ≡ Status.Memory →
+        (s : State) × WantedMemory empty_state script.now (B.held out.old) (B.held out.new) s }
     ensures sink_fault { result ≡ Status.SinkFault → HasRisen (B.faults out.old) (B.faults out.new) }
 {
-    match play(alloc, script, out) {
+    let mut state = State::new();
+    match play(alloc, &mut state, script, out) {
         Ok(false) => Status::Done,
         Ok(true) => Status::Refused,
         Err(SinkFault::Failed) => Status::SinkFault,

@@ -2,8 +2,9 @@
 #![tactic(auto)]
 
 pub use command::{MAX_INPUT, run};
+pub use lines::play;
 pub use status::Status;
 
 mod command;
-mod play;
+mod lines;
 mod status;

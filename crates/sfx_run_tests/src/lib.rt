@@ -1,7 +1,5 @@
-//! Tests of the run of the program, on scripts of one replica and of several that meet.
+//! Tests of the run of the program: how its ends are read and written, and how it ends.
 #![tactic(auto)]
 
 #[cfg(test)]
-mod scripts;
-#[cfg(test)]
-mod sessions;
+mod runs;

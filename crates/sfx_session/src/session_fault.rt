@@ -11,8 +11,8 @@ pub enum SessionFault {
     #[error("source and destination are one replica")]
     SameReplica,
     /// The source knows a version of the destination, or has forgotten a deletion, at the tick `tick`, while
-    /// the destination's clock stands at `clock` and has not come so far: the destination was restored from
-    /// an old copy.
+    /// the destination's clock stands at `clock` and has not come so far: as where the destination was
+    /// restored from an old copy.
     #[error("the source knows tick {tick} of the destination, whose clock stands at {clock}")]
     Ahead { tick: u64, clock: u64 },
     /// The source has forgotten deletions that the destination does not know, and recovery is not built.

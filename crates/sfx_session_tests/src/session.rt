@@ -2,7 +2,7 @@
 ghost use Rattle.std.specs.Prelude.{◌≤◌, IfSome};
 
 use crate::fixtures::{SKIP, count_of, left, provider, second_hand};
-use sfx_model::{EntryKind, SessionEnd};
+use sfx_model::{EntryKind, Mode, SessionEnd};
 use sfx_replica::MemoryProvider;
 use sfx_session::{Report, SessionFault, session};
 use std::alloc::Global;
@@ -131,4 +131,24 @@ fn refuses_an_old_copy(rt: HostRuntime) {
 fn refuses_one_replica(rt: HostRuntime) {
     let told = five_to(&rt, rt.alloc(), &[], (10, &[]), None);
     assert!(rt; told == (Err(SessionFault::SameReplica), 0));
+}
+
+/// A copy of the report of a session that brings five items to a new replica in batches of two changes.
+fn copied_report(rt: &impl Abort, alloc: Global) -> Report<2> {
+    let mut from = provider(rt, alloc, 10, FIVE, &[]);
+    let mut to = provider(rt, alloc, 11, &[], &[]);
+    let report = session(alloc, &mut from, &mut to, &SKIP, 2, 5, None).expect(rt, "a session");
+    drop(from);
+    drop(to);
+    let copy = report.copy(alloc).expect(rt, "a copy");
+    drop(report);
+    copy
+}
+
+#[test]
+fn copies_a_report(rt: HostRuntime) {
+    let copy = copied_report(&rt, rt.alloc());
+    let told = (copy.mode, copy.steps.len(), taken(&copy), copy.end);
+    drop(copy);
+    assert!(rt; told == (Mode::Normal, 3, 5, SessionEnd::Done));
 }

@@ -1,5 +1,5 @@
-use Rattle.sfx_model.proofs.Refusals.{gap_refused, fork_refused, lost_refused, twice_refused, other_count}
-use Rattle.std.proofs.Common.{inl, inr, refl, lit≤}
+use Rattle.sfx_model.proofs.Refusals.{gap_refused, fork_refused, lost_refused, twice_refused, other_count, three_units}
+use Rattle.std.proofs.Common.{inl, inr, refl}
 use Rattle.sfx_model.proofs.Accepted.{edit_accepted, cleanup_accepted}
 use Rattle.sfx_model.proofs.world.examples.Goals as goal
 
@@ -22,10 +22,13 @@ pub returns-clause-twice : goal.returns-clause-twice
 returns-clause-twice c = twice_refused
 
 pub returns-clause-again : goal.returns-clause-again
-returns-clause-again c = record { some = lit≤ tt; said = inr refl }
+returns-clause-again c = record { count = inr (inl refl); said = inr refl }
 
 pub returns-clause-recount : goal.returns-clause-recount
 returns-clause-recount c legal = other_count legal
+
+pub returns-clause-three : goal.returns-clause-three
+returns-clause-three c legal = three_units legal
 
 pub returns-clause-twins : goal.returns-clause-twins
 returns-clause-twins c w stands = stands.apart.0 _ (inl refl) refl

@@ -1,13 +1,13 @@
-use Rattle.std.proofs.Common.{◌≡◌, ◌<◌, ◌≤◌, ◌⊎◌, ◌∙◌, true, false, true≢false, inl, inr, length, refl, sym, arith}
-use Rattle.sfx_outside.specs.Sink.{Adds, AddsFront}
+use Rattle.std.proofs.Common.{◌≡◌, ◌<◌, ◌≤◌, ◌⊎◌, ◌∙◌, ℕ, true, false, true≢false, inl, inr, length, refl, sym, arith}
+use Rattle.sfx_outside.specs.Sink.{Adds}
 use Rattle.sfx_model.specs.World.{World, WellFormed}
 use Rattle.sfx_run.proofs.Played.{played_fits, played_happens, played_not_ahead}
-use Rattle.sfx_run.proofs.Running.{answered_or_memory, has_begun, neither, told, told_anyhow, unanswered, unlike}
+use Rattle.sfx_run.proofs.Running.{answered_or_memory, has_begun, neither, takes_nothing, told, told_anyhow, unanswered, unlike}
 use Rattle.sfx_run.specs.declared.status.Status.TheVariants.{Memory, SinkFault, SourceFault, TooLong, Usage}
 use Rattle.sfx_community.specs.History.{AllFit, AreNotAhead, HasHappened, IsAllOf}
-use Rattle.sfx_run.specs.Run.{has_refusal, played, played_text}
+use Rattle.sfx_run.specs.Run.{BrokeOff, WantedMemory, has_refusal, played, played_text, played_to}
 use Rattle.sfx_run.specs.Status.{IsAnswered}
-use Rattle.sfx_community.specs.State.{community_of}
+use Rattle.sfx_community.specs.State.{State, community_of}
 use Rattle.sfx_community.specs.Turn.{empty_state}
 use Rattle.sfx_run.proofs.command.run.Goals as goal
 
@@ -31,13 +31,13 @@ returns-clause-done g c is =
 
 pub returns-clause-history : goal.returns-clause-history
 returns-clause-history g c is =
-    told_anyhow (λ s. (w : World) → WellFormed w → AllFit w (played s).deeds → HasHappened w empty_state (played s)) _
-    (λ s w ok fit. played_happens w s ok fit)
+    told_anyhow (λ s. (w : World) (count : ℕ) → WellFormed w → AllFit w (played_to count s).deeds → HasHappened w empty_state (played_to count s)) _
+    (λ s w count ok fit. played_happens w count s ok fit)
 
 pub returns-clause-whole : goal.returns-clause-whole
 returns-clause-whole g c is =
-    told_anyhow (λ s. (w : World) → WellFormed w → IsAllOf w (community_of empty_state) → AllFit w (played s).deeds) _
-    (λ s w ok all. played_fits w s ok all)
+    told_anyhow (λ s. (w : World) (count : ℕ) → WellFormed w → IsAllOf w (community_of empty_state) → AllFit w (played_to count s).deeds) _
+    (λ s w count ok all. played_fits w count s ok all)
 
 pub returns-clause-not_ahead : goal.returns-clause-not_ahead
 returns-clause-not_ahead g c is = told_anyhow (λ s. AreNotAhead (played s).replies) _ played_not_ahead
@@ -67,8 +67,13 @@ returns-clause-silent g c is = absurd (has_begun c.answer.result c.answer.ensure
 
 pub returns-clause-broken_off : goal.returns-clause-broken_off
 returns-clause-broken_off g c is =
-    told (λ s. AddsFront (g.B.Sink.held c.args.out.now) (g.B.Sink.held c.answer.new.out) (played_text s)) _ c.in-Ok.script.items c.in-Ok.ensures.all
+    told (λ s. (x : State) × BrokeOff empty_state s (g.B.Sink.held c.args.out.now) (g.B.Sink.held c.answer.new.out) x) _ c.in-Ok.script.items c.in-Ok.ensures.all
     (rw c.as_slice.ensures.value at (c.answer.ensures.broken_off is))
+
+pub returns-clause-memory : goal.returns-clause-memory
+returns-clause-memory g c is =
+    inr (told (λ s. (x : State) × WantedMemory empty_state s (g.B.Sink.held c.args.out.now) (g.B.Sink.held c.answer.new.out) x) _ c.in-Ok.script.items c.in-Ok.ensures.all
+    (rw c.as_slice.ensures.value at (c.answer.ensures.memory is)))
 
 pub returns-clause-unread : goal.returns-clause-unread
 returns-clause-unread g c is = absurd (has_begun c.answer.result c.answer.ensures.ends (inl is))
@@ -122,7 +127,13 @@ pub returns-then-not-is_play-clause-silent : goal.returns-then-not-is_play-claus
 returns-then-not-is_play-clause-silent g c is = refl
 
 pub returns-then-not-is_play-clause-broken_off : goal.returns-then-not-is_play-clause-broken_off
-returns-then-not-is_play-clause-broken_off g c is = absurd (neither (unlike Usage SinkFault refl) (unlike Usage Memory refl) is)
+returns-then-not-is_play-clause-broken_off g c is = absurd (unlike Usage SinkFault refl is)
+
+pub returns-then-not-is_play-clause-memory : goal.returns-then-not-is_play-clause-memory
+returns-then-not-is_play-clause-memory g c is = absurd (unlike Usage Memory refl is)
+
+pub returns-then-not-is_play-clause-taken : goal.returns-then-not-is_play-clause-taken
+returns-then-not-is_play-clause-taken g c = takes_nothing _ (g.A.Source.left c.args.input.now)
 
 pub returns-then-not-is_play-clause-unread : goal.returns-then-not-is_play-clause-unread
 returns-then-not-is_play-clause-unread g c is = refl
@@ -168,7 +179,10 @@ pub returns-in-Err-Failed-clause-silent : goal.returns-in-Err-Failed-clause-sile
 returns-in-Err-Failed-clause-silent g c is = refl
 
 pub returns-in-Err-Failed-clause-broken_off : goal.returns-in-Err-Failed-clause-broken_off
-returns-in-Err-Failed-clause-broken_off g c is = absurd (neither (unlike SourceFault SinkFault refl) (unlike SourceFault Memory refl) is)
+returns-in-Err-Failed-clause-broken_off g c is = absurd (unlike SourceFault SinkFault refl is)
+
+pub returns-in-Err-Failed-clause-memory : goal.returns-in-Err-Failed-clause-memory
+returns-in-Err-Failed-clause-memory g c is = absurd (unlike SourceFault Memory refl is)
 
 pub returns-in-Err-Failed-clause-unread : goal.returns-in-Err-Failed-clause-unread
 returns-in-Err-Failed-clause-unread g c is = absurd (unlike SourceFault Usage refl is)
@@ -208,7 +222,10 @@ pub returns-in-Err-TooLong-clause-silent : goal.returns-in-Err-TooLong-clause-si
 returns-in-Err-TooLong-clause-silent g c is = refl
 
 pub returns-in-Err-TooLong-clause-broken_off : goal.returns-in-Err-TooLong-clause-broken_off
-returns-in-Err-TooLong-clause-broken_off g c is = absurd (neither (unlike TooLong SinkFault refl) (unlike TooLong Memory refl) is)
+returns-in-Err-TooLong-clause-broken_off g c is = absurd (unlike TooLong SinkFault refl is)
+
+pub returns-in-Err-TooLong-clause-memory : goal.returns-in-Err-TooLong-clause-memory
+returns-in-Err-TooLong-clause-memory g c is = absurd (unlike TooLong Memory refl is)
 
 pub returns-in-Err-TooLong-clause-unread : goal.returns-in-Err-TooLong-clause-unread
 returns-in-Err-TooLong-clause-unread g c is = absurd (unlike TooLong Usage refl is)
@@ -252,3 +269,9 @@ returns-in-Err-Memory-clause-silent g c is = absurd (has_begun Memory (inr (inr 
 
 pub returns-in-Err-Memory-clause-unread : goal.returns-in-Err-Memory-clause-unread
 returns-in-Err-Memory-clause-unread g c is = absurd (unlike Memory Usage refl is)
+
+pub returns-in-Err-Memory-clause-broken_off : goal.returns-in-Err-Memory-clause-broken_off
+returns-in-Err-Memory-clause-broken_off g c is = absurd (unlike Memory SinkFault refl is)
+
+pub returns-in-Err-Memory-clause-memory : goal.returns-in-Err-Memory-clause-memory
+returns-in-Err-Memory-clause-memory g c is = inl refl
