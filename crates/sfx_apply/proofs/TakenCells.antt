@@ -5,9 +5,9 @@ use Rattle.std.proofs.lemmas.Option.{slice_get_read, unwrap_or-slice_get}
 use Rattle.sfx_item.specs.declared.cell.Cell.{Cell}
 use Rattle.sfx_model.specs.declared.mark.Mark.{Mark}
 use Rattle.sfx_model.specs.declared.mark.Mark.TheVariants.{Stays}
-use Rattle.sfx_model.specs.Entry.{is_taken, no_cell}
-use Rattle.sfx_model.specs.Units.{at_unit, each_unit}
-use Rattle.sfx_settle.proofs.Testing.{each_more}
+use Rattle.sfx_model.specs.sessions.Entry.{is_taken, no_cell}
+use Rattle.sfx_model.specs.world.Units.{at_unit, each_unit}
+use Rattle.sfx_settle.proofs.UnitTests.{each_more}
 use Rattle.sfx_apply.specs.Work.{taken_cells}
 
 cell_read : (cells : List Cell) (u : ℕ) (c : Cell) → c ≡ get_or cells u c → u < length cells → at_unit cells u no_cell ≡ c

@@ -14,9 +14,9 @@ pub struct Applied<const U: usize> {
 }
 
 impl<const U: usize> Model for Applied<U> {
-    ghost use Rattle.sfx_model.specs.Session.{AppliedBatch};
+    ghost use Rattle.sfx_model.specs.sessions.Session.{AppliedData};
 
-    ghost Value = { AppliedBatch };
+    ghost Value = { AppliedData };
 
     ghost view = { λ a. record { entries = a.entries.items; end = a.end } };
 }

@@ -1,14 +1,14 @@
 ghost use Rattle.std.specs.Prelude.{◌≡◌, ◌≤◌, IfOk, OnOk, OnErr};
-ghost use Rattle.sfx_apply.specs.Fault.{RefusesAtRest, blames_provider, is_ahead, refusal_of};
+ghost use Rattle.sfx_apply.specs.Fault.{RefusesAtRest, blames_provider, batch_is_ahead, batch_refusal};
 ghost use Rattle.sfx_apply.specs.Rules.{LeavesConflicts};
 ghost use Rattle.sfx_apply.specs.Turns.{in_turn, seen_views, work_begun};
 ghost use Rattle.sfx_apply.specs.Work.{KnowsNoMore, Waits};
-ghost use Rattle.sfx_model.specs.Acting.{Brings, DeedsActIn};
-ghost use Rattle.sfx_model.specs.Deeds.{batch_deeds};
-ghost use Rattle.sfx_model.specs.Members.{Member};
-ghost use Rattle.sfx_model.specs.Moments.{committed, stops};
-ghost use Rattle.sfx_model.specs.Session.{applied, applied_batch};
-ghost use Rattle.sfx_model.specs.World.{World};
+ghost use Rattle.sfx_model.specs.sessions.Acts.{Brings, DeedsActIn};
+ghost use Rattle.sfx_model.specs.sessions.Deeds.{batch_deeds};
+ghost use Rattle.sfx_model.specs.members.Members.{Member};
+ghost use Rattle.sfx_model.specs.sessions.Moments.{committed, stops};
+ghost use Rattle.sfx_model.specs.sessions.Session.{outcome_of, applied_data};
+ghost use Rattle.sfx_model.specs.world.World.{World};
 ghost use Rattle.sfx_model.specs.declared.mode.Mode.TheVariants.{Normal};
 ghost use Rattle.sfx_provider.specs.Answer.{IsNever, Refuses};
 ghost use Rattle.sfx_provider.specs.Fault.{HasCause, blames_storage};
@@ -62,23 +62,23 @@ pub fn apply_batch<const U: usize, P: Provider<U>, M: Merger>(
     requires skip { LeavesConflicts (rules_view M.meaning rules.now) }
     requires normal { batch.now.mode ≡ Normal }
     requires group { 1 ≤ group }
-    ensures report { let o = applied U batch.now (rules_view M.meaning rules.now) budget (P.state provider.old) in
-        IfOk result (λ a. a ≡ applied_batch o) }
-    ensures arrives { let o = applied U batch.now (rules_view M.meaning rules.now) budget (P.state provider.old) in
+    ensures report { let o = outcome_of U batch.now (rules_view M.meaning rules.now) budget (P.state provider.old) in
+        IfOk result (λ a. a ≡ applied_data o) }
+    ensures arrives { let o = outcome_of U batch.now (rules_view M.meaning rules.now) budget (P.state provider.old) in
         let made = committed group o.moments in
         OnOk result (Arrives P.state P.kept P.settled P.came provider.old provider.new made o.member) }
-    ensures breaks_off { let o = applied U batch.now (rules_view M.meaning rules.now) budget (P.state provider.old) in
+    ensures breaks_off { let o = outcome_of U batch.now (rules_view M.meaning rules.now) budget (P.state provider.old) in
         let made = committed group o.moments in
         let ends = stops group (P.state provider.old) o.moments in
         OnErr result (BreaksOff P.kept P.came P.broke provider.old provider.new made ends) }
     ensures ahead { let still = Rests P.state P.kept P.settled P.came provider.old provider.new in
-        RefusesAtRest still (refusal_of (P.state provider.old) batch.now) result }
+        RefusesAtRest still (batch_refusal (P.state provider.old) batch.now) result }
     ensures acts { let m = P.state provider.old in
         let deeds = batch_deeds U batch.now (rules_view M.meaning rules.now) budget m in
         OnOk result ((w : World) (source : Member) → Brings w U source m batch.now →
         DeedsActIn w deeds source m.id (P.state provider.new)) }
     ensures not_ahead { (w : World) (source : Member) → Brings w U source (P.state provider.old) batch.now →
-        IsNever is_ahead result }
+        IsNever batch_is_ahead result }
     ensures cause { HasCause blames_provider (P.faults provider.old) (P.faults provider.new) result }
 {
     provider.keeps();
@@ -105,7 +105,7 @@ fn begin<const U: usize, P: Provider<U>>(
     ensures budget { IfOk result (λ work. work.budget ≡ budget) }
     ensures waits { IfOk result (λ work. Waits U work.pending (P.state provider.new)) }
     ensures no_more { OnOk result (KnowsNoMore U (P.state provider.new) batch.now) }
-    ensures ahead { Refuses is_ahead result (refusal_of (P.state provider.old) batch.now) }
+    ensures ahead { Refuses batch_is_ahead result (batch_refusal (P.state provider.old) batch.now) }
     ensures rests { Rests P.state P.kept P.settled P.came provider.old provider.new }
     ensures cause { HasCause blames_provider (P.faults provider.old) (P.faults provider.new) result }
 {
@@ -133,7 +133,7 @@ fn head_of<const U: usize, P: Provider<U>>(
     provider: &mut P,
 ) -> Result<Head<U>, ApplyFault>
     ensures value { IfOk result (λ head. head ≡ head_of U (P.state provider.old)) }
-    ensures not_ahead { IsNever is_ahead result }
+    ensures not_ahead { IsNever batch_is_ahead result }
     ensures rests { Rests P.state P.kept P.settled P.came provider.old provider.new }
     ensures cause { HasCause blames_provider (P.faults provider.old) (P.faults provider.new) result }
 {
@@ -160,14 +160,14 @@ fn apply_changes<const U: usize, P: Provider<U>, M: Merger>(
     requires group { 1 ≤ group }
     requires begun { work ≡ work_begun U work.budget (P.state provider.old) }
     ensures report { let rules = rules_view M.meaning rules.now in
-        let out = applied U batch.now rules work.entry.budget (P.state provider.old) in
-        IfOk result (λ a. a ≡ applied_batch out) }
+        let out = outcome_of U batch.now rules work.entry.budget (P.state provider.old) in
+        IfOk result (λ a. a ≡ applied_data out) }
     ensures arrives { let rules = rules_view M.meaning rules.now in
-        let out = applied U batch.now rules work.entry.budget (P.state provider.old) in
+        let out = outcome_of U batch.now rules work.entry.budget (P.state provider.old) in
         OnOk result (Arrives P.state P.kept P.settled P.came provider.old provider.new
         (committed group out.moments) out.member) }
     ensures breaks_off { let rules = rules_view M.meaning rules.now in
-        let out = applied U batch.now rules work.entry.budget (P.state provider.old) in
+        let out = outcome_of U batch.now rules work.entry.budget (P.state provider.old) in
         OnErr result (BreaksOff P.kept P.came P.broke provider.old provider.new
         (committed group out.moments) (stops group (P.state provider.old) out.moments)) }
     ensures cause { HasCause blames_storage (P.faults provider.old) (P.faults provider.new) result }
@@ -204,14 +204,14 @@ fn apply_turns<const U: usize, P: Provider<U>, M: Merger>(
     requires group { 1 ≤ group }
     requires begun { work.old ≡ work_begun U work.old.budget (P.state provider.old) }
     ensures report { let rules = rules_view M.meaning rules.now in
-        let out = applied U batch.now rules work.old.budget (P.state provider.old) in
-        IfOk result (λ end. record { entries = work.new.entries; end = end } ≡ applied_batch out) }
+        let out = outcome_of U batch.now rules work.old.budget (P.state provider.old) in
+        IfOk result (λ end. record { entries = work.new.entries; end = end } ≡ applied_data out) }
     ensures arrives { let rules = rules_view M.meaning rules.now in
-        let out = applied U batch.now rules work.old.budget (P.state provider.old) in
+        let out = outcome_of U batch.now rules work.old.budget (P.state provider.old) in
         OnOk result (Arrives P.state P.kept P.settled P.came provider.old provider.new
         (committed group out.moments) out.member) }
     ensures breaks_off { let rules = rules_view M.meaning rules.now in
-        let out = applied U batch.now rules work.old.budget (P.state provider.old) in
+        let out = outcome_of U batch.now rules work.old.budget (P.state provider.old) in
         OnErr result (BreaksOff P.kept P.came P.broke provider.old provider.new
         (committed group out.moments) (stops group (P.state provider.old) out.moments)) }
     ensures cause { HasCause blames_storage (P.faults provider.old) (P.faults provider.new) result }

@@ -23,9 +23,9 @@ pub struct Entry<const U: usize> {
 }
 
 impl<const U: usize> Model for Entry<U> {
-    ghost use Rattle.sfx_model.specs.Entry.{Entry};
+    ghost use Rattle.sfx_model.specs.sessions.Entry.{EntryData};
 
-    ghost Value = { Entry };
+    ghost Value = { EntryData };
 
     ghost view = { λ e. record {
       item = e.item;

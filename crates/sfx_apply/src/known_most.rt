@@ -1,5 +1,5 @@
 ghost use Rattle.std.specs.Prelude.{◌≡◌, ◌≤◌};
-ghost use Rattle.sfx_model.specs.Knowing.{most_known};
+ghost use Rattle.sfx_model.specs.sessions.MemberKnowledge.{most_known};
 
 use sfx_ids::ReplicaId;
 use sfx_knowledge::{Forgotten, Knowledge};

@@ -2,9 +2,9 @@
 ghost use Rattle.std.specs.Prelude.{◌≡◌, ◌≤◌, IfOk};
 ghost use Rattle.sfx_ids.specs.declared.cut.Cut.TheVariants.{After, At};
 ghost use Rattle.sfx_knowledge.specs.Knowledge.{IsKnowledge};
-ghost use Rattle.sfx_model.specs.Entry.{left_from};
-ghost use Rattle.sfx_model.specs.Knowing.{learned_known};
-ghost use Rattle.sfx_model.specs.Session.{lefts};
+ghost use Rattle.sfx_model.specs.sessions.Entry.{left_from};
+ghost use Rattle.sfx_model.specs.sessions.MemberKnowledge.{learned_known};
+ghost use Rattle.sfx_model.specs.sessions.Session.{lefts};
 
 use crate::Entry;
 use crate::marking::{left_by, left_of};

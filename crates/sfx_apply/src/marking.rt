@@ -4,9 +4,9 @@ ghost use Rattle.std.specs.List.{list_any};
 ghost use Rattle.sfx_apply.specs.Work.{AddsSkips, SameSkips};
 ghost use Rattle.sfx_ids.specs.declared.item_id.ItemId.{ItemId};
 ghost use Rattle.sfx_knowledge.specs.Skips.{is_skipped};
-ghost use Rattle.sfx_model.specs.Draft.{is_left};
-ghost use Rattle.sfx_model.specs.Entry.{is_stamped, is_taken, kind_of_marks, left_from};
-ghost use Rattle.sfx_model.specs.Session.{lefts};
+ghost use Rattle.sfx_model.specs.sessions.Draft.{is_left};
+ghost use Rattle.sfx_model.specs.sessions.Entry.{is_stamped, is_taken, kind_of_marks, left_from};
+ghost use Rattle.sfx_model.specs.sessions.Session.{lefts};
 
 use crate::Entry;
 use sfx_ids::{ItemId, Memory, UnitId};

@@ -4,11 +4,11 @@ ghost use Rattle.std.specs.List.{list_all, list_any};
 ghost use Rattle.sfx_apply.specs.Turns.{destination};
 ghost use Rattle.sfx_apply.specs.Work.{Waits};
 ghost use Rattle.sfx_item.specs.Name.{IsName};
-ghost use Rattle.sfx_model.specs.Clashes.{drafted_name};
+ghost use Rattle.sfx_model.specs.sessions.Clashes.{drafted_name};
 ghost use Rattle.sfx_item.specs.Item.{state_view};
-ghost use Rattle.sfx_model.specs.Members.{AreRising, state_of};
-ghost use Rattle.sfx_model.specs.Readings.{is_clashing, is_in_the_way};
-ghost use Rattle.sfx_model.specs.NewName.{is_free};
+ghost use Rattle.sfx_model.specs.members.Members.{AreAscending, state_of};
+ghost use Rattle.sfx_model.specs.members.Readings.{is_clashing, is_in_the_way};
+ghost use Rattle.sfx_model.specs.sessions.NewName.{is_free};
 ghost use Rattle.sfx_provider.specs.Fault.{HasCause, blames_storage};
 ghost use Rattle.sfx_provider.specs.Leaves.{Rests};
 
@@ -96,7 +96,7 @@ fn is_clashing<const U: usize>(state: &State<U>, name: &Name) -> bool
 
 /// Whether each of the ids is that of one of the items.
 fn are_put<const U: usize>(ids: &[ItemId], items: &[Item<U>]) -> bool
-    requires rising { AreRising items.now }
+    requires ascending { AreAscending items.now }
     ensures { result ≡ list_all (λ id. is_some (state_of items.now id)) ids.now }
 {
     for id in ids {

@@ -2,7 +2,7 @@
 ghost use Rattle.std.specs.Prelude.{◌≡◌, IfOk, OnOk, ◌++◌, not};
 ghost use Rattle.std.specs.List.{filter};
 ghost use Rattle.sfx_apply.specs.Turns.{in_turn, seen_views};
-ghost use Rattle.sfx_model.specs.Session.{is_live_state};
+ghost use Rattle.sfx_model.specs.sessions.Session.{is_live_state};
 
 use sfx_batch::Batch;
 use sfx_ids::Memory;

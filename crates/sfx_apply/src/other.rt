@@ -15,9 +15,9 @@ pub struct Other {
 }
 
 impl Model for Other {
-    ghost use Rattle.sfx_model.specs.Entry.{Other};
+    ghost use Rattle.sfx_model.specs.sessions.Entry.{OtherData};
 
-    ghost Value = { Other };
+    ghost Value = { OtherData };
 
     ghost view = { λ o. record { item = o.item; tick = o.tick; name = o.name } };
 }

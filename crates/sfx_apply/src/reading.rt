@@ -3,7 +3,7 @@ ghost use Rattle.std.specs.Prelude.{◌≡◌, [], IfOk};
 ghost use Rattle.std.specs.Option.{option_map};
 ghost use Rattle.sfx_apply.specs.Turns.{destination};
 ghost use Rattle.sfx_apply.specs.Work.{Waits};
-ghost use Rattle.sfx_model.specs.Members.{state_of};
+ghost use Rattle.sfx_model.specs.members.Members.{state_of};
 ghost use Rattle.sfx_provider.specs.Fault.{HasCause, blames_storage};
 ghost use Rattle.sfx_provider.specs.Leaves.{Rests};
 

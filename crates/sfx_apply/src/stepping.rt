@@ -3,8 +3,8 @@ ghost use Rattle.std.specs.Prelude.{◌≡◌, ◌≤◌, ◌∷◌, [], length,
 ghost use Rattle.sfx_apply.specs.Rules.{LeavesConflicts};
 ghost use Rattle.sfx_apply.specs.Turns.{destination, end_before, is_due, next_state, next_states, next_work, with_range_of};
 ghost use Rattle.sfx_apply.specs.Work.{KnowsNoMore, Waits};
-ghost use Rattle.sfx_model.specs.Batch.{IsSent};
-ghost use Rattle.sfx_model.specs.Consistent.{IsConsistent};
+ghost use Rattle.sfx_model.specs.sessions.Batch.{IsSent};
+ghost use Rattle.sfx_model.specs.members.Consistent.{IsConsistent};
 ghost use Rattle.sfx_model.specs.declared.mode.Mode.TheVariants.{Normal};
 ghost use Rattle.sfx_provider.specs.Fault.{HasCause, blames_storage};
 ghost use Rattle.sfx_provider.specs.Leaves.{Arrives, BreaksOff};

@@ -2,7 +2,7 @@
 ghost use Rattle.std.specs.Prelude.{◌≡◌, ◌≤◌, ◌∷◌, ◌++◌, [], if◌then◌else◌, length, IfOk, OnOk};
 ghost use Rattle.std.specs.Option.{option_map};
 ghost use Rattle.sfx_apply.specs.Work.{taken_cells, taken_state};
-ghost use Rattle.sfx_model.specs.Entry.{is_taken};
+ghost use Rattle.sfx_model.specs.sessions.Entry.{is_taken};
 ghost use Rattle.sfx_item.specs.Item.{state_view};
 
 use sfx_ids::Memory;

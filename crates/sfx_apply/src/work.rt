@@ -4,10 +4,10 @@ ghost use Rattle.sfx_apply.specs.Turns.{with_range_of};
 ghost use Rattle.sfx_apply.specs.Work.{put_taken, quiet_entry, taken_state, with_marks};
 ghost use Rattle.sfx_ids.specs.declared.cut.Cut.TheVariants.{After, At};
 ghost use Rattle.sfx_knowledge.specs.Knowledge.{IsKnowledge};
-ghost use Rattle.sfx_model.specs.Entry.{left_from};
-ghost use Rattle.sfx_model.specs.Members.{AreRising};
-ghost use Rattle.sfx_model.specs.Knowing.{learned_known};
-ghost use Rattle.sfx_model.specs.Session.{is_spent, lefts, reduced};
+ghost use Rattle.sfx_model.specs.sessions.Entry.{left_from};
+ghost use Rattle.sfx_model.specs.members.Members.{AreAscending};
+ghost use Rattle.sfx_model.specs.sessions.MemberKnowledge.{learned_known};
+ghost use Rattle.sfx_model.specs.sessions.Session.{is_spent, lefts, reduced};
 
 use crate::Entry;
 use crate::learning::{learned_item, learned_range};
@@ -75,7 +75,7 @@ impl<const U: usize> Work<U> {
     ) -> Result<(), Memory>
         requires some { 1 ≤ U }
         requires form { IsKnowledge U self.old.pending.knowledge }
-        requires rising { AreRising self.old.pending.puts }
+        requires ascending { AreAscending self.old.pending.puts }
         ensures pending { let here = option_map (λ x. x.now.state) local.entry in
             let c = self.old.pending in
             OnOk result (self.new.pending ≡ with_marks U batch.now change.now marks.entry here c) }
@@ -121,7 +121,7 @@ impl<const U: usize> Work<U> {
         marks: &Marks<U>,
     ) -> Result<(), Memory>
         requires some { 1 ≤ U }
-        requires rising { AreRising self.old.pending.puts }
+        requires ascending { AreAscending self.old.pending.puts }
         ensures pending { let c = self.old.pending in
             let here = option_map (λ x. x.now.state) local.entry in
             let puts = put_taken U marks.now change.now here c.puts in

@@ -1,4 +1,4 @@
-pub mod Taking
-pub mod Lists
-pub mod Listing
-pub mod Due
+pub mod FirstItems
+pub mod PickedItems
+pub mod ListedIds
+pub mod DueBatches

@@ -4,6 +4,6 @@ use Rattle.sfx_batch.specs.declared.batch_fault.BatchFault.{BatchFault}
 use Rattle.sfx_batch.specs.declared.batch_fault.BatchFault.TheVariants.{Provider, Memory}
 
 -- The fault is one of the source's provider.
-abbrev pub blames_source : BatchFault → Bool
-blames_source Provider = true
-blames_source Memory = false
+abbrev pub is_of_source : BatchFault → Bool
+is_of_source Provider = true
+is_of_source Memory = false

@@ -1,7 +1,7 @@
 ghost use Rattle.std.specs.Prelude.{◌≡◌, ◌↔◌, IsTrue, IfOk};
 ghost use Rattle.sfx_ids.specs.declared.cut.Cut.TheVariants.{End};
 ghost use Rattle.sfx_knowledge.specs.Knowledge.{HasTicks, IsKnowledge, projected, tick_at};
-ghost use Rattle.sfx_model.specs.Batch.{IsBatch};
+ghost use Rattle.sfx_model.specs.sessions.Batch.{IsBatch};
 
 use sfx_ids::{Cut, ItemId, Memory, ReplicaId};
 use sfx_item::Item;
@@ -29,9 +29,9 @@ pub struct Batch<const U: usize> {
 }
 
 impl<const U: usize> Model for Batch<U> {
-    ghost use Rattle.sfx_model.specs.Batch.{Batch, IsBatch};
+    ghost use Rattle.sfx_model.specs.sessions.Batch.{BatchData, IsBatch};
 
-    ghost Value = { Batch };
+    ghost Value = { BatchData };
 
     ghost view = { λ b. record {
       source = b.source;

@@ -2,9 +2,9 @@ ghost use Rattle.std.specs.Prelude.{ℕ};
 ghost use Rattle.sfx_ids.specs.declared.cut.Cut.{Cut};
 ghost use Rattle.sfx_knowledge.specs.Forgotten.{AreForgets};
 ghost use Rattle.sfx_knowledge.specs.Knowledge.{Known};
-ghost use Rattle.sfx_model.specs.Batch.{IsBatch, batch_from};
-ghost use Rattle.sfx_model.specs.Consistent.{IsConsistent};
-ghost use Rattle.sfx_model.specs.Members.{Member};
+ghost use Rattle.sfx_model.specs.sessions.Batch.{IsBatch, batch_from};
+ghost use Rattle.sfx_model.specs.members.Consistent.{IsConsistent};
+ghost use Rattle.sfx_model.specs.members.Members.{Member};
 ghost use Rattle.sfx_model.specs.declared.mode.Mode.{Mode};
 ghost use Rattle.sfx_segments.specs.Segments.{IsPlace};
 

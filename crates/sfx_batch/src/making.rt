@@ -1,9 +1,9 @@
 ghost use Rattle.std.specs.Option.{option_map};
 ghost use Rattle.std.specs.Prelude.{◌≡◌, ◌≤◌, if◌then◌else◌, nat_lt, length, take, IfOk};
-ghost use Rattle.sfx_batch.specs.Fault.{blames_source};
+ghost use Rattle.sfx_batch.specs.Fault.{is_of_source};
 ghost use Rattle.sfx_ids.specs.declared.cut.Cut.TheVariants.{End};
-ghost use Rattle.sfx_model.specs.Batch.{batch_from, due, due_end, ids_in, listed_ids, place_behind};
-ghost use Rattle.sfx_model.specs.Readings.{first_from};
+ghost use Rattle.sfx_model.specs.sessions.Batch.{batch_from, due, due_end, ids_in, listed_ids, place_behind};
+ghost use Rattle.sfx_model.specs.members.Readings.{first_from};
 ghost use Rattle.sfx_provider.specs.Fault.{HasCause, blames_storage};
 ghost use Rattle.sfx_provider.specs.Leaves.{Rests};
 ghost use Rattle.sfx_segments.specs.Segments.{IsPlace};
@@ -35,7 +35,7 @@ pub fn make_batch<const U: usize, P: Provider<U>>(
     requires place { IsPlace from.now }
     ensures value { IfOk result (λ b. b ≡ batch_from U (P.state source.old) mode size known.now from.now) }
     ensures rests { Rests P.state P.kept P.settled P.came source.old source.new }
-    ensures cause { HasCause blames_source (P.faults source.old) (P.faults source.new) result }
+    ensures cause { HasCause is_of_source (P.faults source.old) (P.faults source.new) result }
 {
     match due_batch(alloc, source, known, from, size, mode) {
         Ok(batch) => Ok(batch),
@@ -45,7 +45,7 @@ pub fn make_batch<const U: usize, P: Provider<U>>(
 }
 
 /// The batch that is due, with the provider's own faults.
-#[tactic(auto, unfolding(sfx_model::specs::Batch::batch_from))]
+#[tactic(auto, unfolding(sfx_model::specs::sessions::Batch::batch_from))]
 fn due_batch<const U: usize, P: Provider<U>>(
     alloc: Global,
     source: &mut P,

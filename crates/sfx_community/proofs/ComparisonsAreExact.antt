@@ -1,38 +1,32 @@
 -- What the lines `equal` and `knows` tell is so.
-use Rattle.std.proofs.Common.{◌≡◌, ◌≢◌, ◌↔◌, ℕ, ◌<◌, ◌≤◌, Bool, true, false, ◌==◌, nat_eq, nat_lt, nat_le, IsTrue, true≢false, if◌then◌else◌, Option, Some, None, Ok, Err, List, length, refl, sym, ap, ◌∙◌, subst, arith}
+use Rattle.std.proofs.Common.{◌≡◌, ◌≢◌, ◌↔◌, ℕ, ◌<◌, ◌≤◌, Bool, true, false, nat_lt, nat_le, IsTrue, true≢false, Some, List, refl, sym, ap, ◌∙◌, subst, arith}
 use Rattle.std.proofs.lemmas.Bool.Decides.{nat_tests}
 use Rattle.sfx_ids.specs.declared.cut.Cut.TheVariants.{At}
 use Rattle.sfx_ids.specs.declared.item_id.ItemId.{ItemId}
 use Rattle.sfx_ids.specs.declared.version.Version.{Version}
-use Rattle.sfx_knowledge.proofs.Known.{one_knowledge}
+use Rattle.sfx_knowledge.proofs.KnowledgeLemmas.{one_knowledge}
 use Rattle.sfx_knowledge.specs.Knowledge.{tick_at}
-use Rattle.sfx_model.proofs.Communities.{counted}
-use Rattle.sfx_model.proofs.Comparing.{in_form, laid_form, laid_has}
-use Rattle.sfx_model.proofs.Headline.{facts_hold}
-use Rattle.sfx_model.specs.Acting.{IsOrderly}
-use Rattle.sfx_model.specs.Headline.{HaveEqualKnowledge, live_items}
-use Rattle.sfx_model.specs.Knowing.{laid_known}
-use Rattle.sfx_model.specs.Members.{Member, contains, shown}
-use Rattle.sfx_model.specs.Sets.{Has}
-use Rattle.sfx_model.specs.Standing.{StateStandsIn}
-use Rattle.sfx_model.specs.World.{Made, World, WellFormed}
-use Rattle.sfx_replica.specs.declared.edit_fault.EditFault.{EditFault}
-use Rattle.sfx_replica.specs.Refusals.{create_refusal, set_refusal}
+use Rattle.sfx_model.proofs.members.StateStands.{counted}
+use Rattle.sfx_model.proofs.sessions.ClassTests.{in_form, laid_form, laid_has}
+use Rattle.sfx_model.proofs.members.FactsHold.{facts_hold}
+use Rattle.sfx_model.specs.sessions.Acts.{IsOrderly}
+use Rattle.sfx_model.specs.members.Headline.{HaveEqualKnowledge, live_items}
+use Rattle.sfx_model.specs.sessions.MemberKnowledge.{laid_known}
+use Rattle.sfx_model.specs.members.Members.{Member, contains, shown}
+use Rattle.sfx_model.specs.world.Sets.{Has}
+use Rattle.sfx_model.specs.members.StandsIn.{StateStandsIn}
+use Rattle.sfx_model.specs.world.World.{Made, World, WellFormed}
 use Rattle.sfx_reply.specs.declared.reply.Reply.{Reply}
-use Rattle.sfx_reply.specs.declared.reply.Reply.TheVariants.{Done, Created, Changed, Known, Compared, Shown, Synced, Refused}
-use Rattle.sfx_script.specs.declared.line.Line.TheVariants as lines
-use Rattle.sfx_script.specs.declared.options.Options.{Options}
-use Rattle.sfx_script.specs.Reading.{Read, reading_of}
-use Rattle.sfx_script.specs.declared.line.Line.{Line}
-use Rattle.sfx_session.specs.declared.session_fault.SessionFault.{SessionFault}
-use Rattle.sfx_session.specs.Refusals.{refusal_of}
-use Rattle.sfx_community.specs.Comparing.{hold_same, know_same}
+use Rattle.sfx_reply.specs.declared.reply.Reply.TheVariants.{Compared}
+use Rattle.sfx_script.specs.Reading.{reading_of}
+use Rattle.sfx_community.specs.Sameness.{hold_same, know_same}
 use Rattle.sfx_community.specs.Comparisons.{IsAccount, IsComparison}
 use Rattle.sfx_community.specs.History.{AreOrderly}
-use Rattle.sfx_community.specs.State.{KeptMember, State, community_of, has_name, is_taken, member_of, named_member}
-use Rattle.sfx_community.specs.Turn.{Turn, create_at, create_by, equal_at, equal_turn, is_built, is_unit_count, knows_at, knows_turn, session_at, set_at, set_by, show_at, sync_by, turn, turn_by}
-use Rattle.sfx_community.proofs.Communities.{member_has, named_has}
-use Rattle.sfx_community.proofs.Compared.{items_decided, segments_decided}
+use Rattle.sfx_community.specs.State.{KeptMember, State, community_of, member_of, named_member}
+use Rattle.sfx_community.specs.Turn.{Turn, equal_turn, knows_turn, turn}
+use Rattle.sfx_community.proofs.StateLemmas.{member_has, named_has}
+use Rattle.sfx_community.proofs.SamenessLemmas.{items_decided, segments_decided}
+use Rattle.sfx_community.proofs.TurnForms.{IsTurn, Stands, compares, counts, edits, joins, limits_kept, line_form, meets, refuses, tells}
 
 -- lists in order, and with them what each member knows of each place
 same_knowledge : (units : ℕ) (m n : Member) → IsOrderly units m → IsOrderly units n
@@ -86,42 +80,6 @@ knows_exact w s name m i u v ok stands found within made =
 abbrev IsFair : Reply → Type 0
 IsFair reply = reply ≢ Compared true false
 
--- the choice of a turn
-fair_if : (b : Bool) (t other : Turn) → IsFair t.reply → IsFair other.reply → IsFair (if b then t else other).reply
-fair_if true t other one two = one
-fair_if false t other one two = two
-
-fair_create : (s : State) (name : List ℕ) (o : Option KeptMember) (values : List (List ℕ)) → IsFair (create_at s name o values).reply
-fair_create s name None values = λ is. cc
-fair_create s name (Some m) values =
-    fair_if (length values == s.units) (create_by s m values (create_refusal m.member values)) _ (by_fault (create_refusal m.member values)) (λ is. cc) where
-      by_fault : (f : Option EditFault) → IsFair (create_by s m values f).reply
-      by_fault None = λ is. cc
-      by_fault (Some fault) = λ is. cc
-
-fair_set : (s : State) (name : List ℕ) (o : Option KeptMember) (i : ItemId) (u : ℕ) (value : List ℕ) → IsFair (set_at s name o i u value).reply
-fair_set s name None i u value = λ is. cc
-fair_set s name (Some m) i u value = by_fault (set_refusal s.units m.member i u value) where
-  by_fault : (f : Option EditFault) → IsFair (set_by s m i u value f).reply
-  by_fault None = λ is. cc
-  by_fault (Some fault) = λ is. cc
-
-fair_show : (s : State) (name : List ℕ) (o : Option KeptMember) → IsFair (show_at s name o).reply
-fair_show s name None = λ is. cc
-fair_show s name (Some m) = λ is. cc
-
-fair_knows : (s : State) (name : List ℕ) (o : Option KeptMember) (i : ItemId) (u : ℕ) (v : Version) → IsFair (knows_at s name o i u v).reply
-fair_knows s name None i u v = λ is. cc
-fair_knows s name (Some m) i u v = fair_if (nat_lt u s.units) _ _ (λ is. cc) (λ is. cc)
-
-fair_session : (s : State) (source destination : List ℕ) (o p : Option KeptMember) (options : Options) → IsFair (session_at s source destination o p options).reply
-fair_session s source destination None p options = λ is. cc
-fair_session s source destination (Some m) None options = λ is. cc
-fair_session s source destination (Some m) (Some n) options = by_fault (refusal_of s.units m.member n.member) where
-  by_fault : (f : Option SessionFault) → IsFair (sync_by s m n options f).reply
-  by_fault None = λ is. cc
-  by_fault (Some fault) = λ is. cc
-
 -- the parts of a comparison
 compared_parts : (k i : Bool) → Compared k i ≡ Compared true false → (k ≡ true) × (i ≡ false)
 compared_parts k i is = (cc, cc)
@@ -138,39 +96,21 @@ fair_two w s m n ok stands orderly here there same =
     (facts.equal (named_member m) (named_member n) here there
     (subst (λ (units : ℕ). HaveEqualKnowledge units (shown m.member) (shown n.member)) units alike))
 
--- in a state that stands, equal knowledge means equal items
-fair_equal : (w : World) (s : State) (first second : List ℕ) (o p : Option KeptMember)
-    → WellFormed w → StateStandsIn w (community_of s) → AreOrderly (community_of s)
-    → member_of s.members first ≡ o → member_of s.members second ≡ p → IsFair (equal_at s first second o p).reply
-fair_equal w s first second None p ok stands orderly found_o found_p = λ is. cc
-fair_equal w s first second (Some m) None ok stands orderly found_o found_p = λ is. cc
-fair_equal w s first second (Some m) (Some n) ok stands orderly found_m found_n = λ is.
-    let here = named_has s.members m (member_has s.members first m found_m) in
-    let there = named_has s.members n (member_has s.members second n found_n) in
+-- any turn
+form_fair : (w : World) (s : State) (t : Turn) → IsTurn s t → Stands w s → AreOrderly (community_of s) → IsFair t.reply
+form_fair w s t (tells s2 reply plain) at orderly = plain.fair
+form_fair w s t (compares s2 m n one other) at orderly = λ is.
+    let here = named_has s.members m (member_has s.members one.name m one.found) in
+    let there = named_has s.members n (member_has s.members other.name n other.found) in
     let parts = compared_parts (know_same s.units m.member n.member) (hold_same m.member n.member) is in
-    absurd (true≢false (sym (fair_two w s m n ok stands orderly here there parts.0) ∙ parts.1))
-
-fair_line : (w : World) (s : State) (r : Read Line) → WellFormed w → StateStandsIn w (community_of s) → AreOrderly (community_of s)
-    → IsFair (turn_by s r).reply
-fair_line w s (Err cause) ok stands orderly = λ is. cc
-fair_line w s (Ok (lines.Units n)) ok stands orderly =
-    fair_if (is_unit_count n) _ _ (fair_if (nat_eq n 2) _ _ (fair_if (nat_eq s.units 0) _ _ (λ is. cc) (λ is. cc)) (λ is. cc)) (λ is. cc)
-fair_line w s (Ok (lines.Replica name id)) ok stands orderly =
-    fair_if (nat_eq s.units 0) _ _ (λ is. cc) (fair_if (has_name name s.members) _ _ (λ is. cc) (fair_if (is_taken id s.members) _ _ (λ is. cc) (λ is. cc)))
-fair_line w s (Ok (lines.Files name id)) ok stands orderly = λ is. cc
-fair_line w s (Ok (lines.Create name values)) ok stands orderly = fair_create s name (member_of s.members name) values
-fair_line w s (Ok (lines.Set name i unit value)) ok stands orderly = fair_set s name (member_of s.members name) i unit value
-fair_line w s (Ok (lines.Delete name i)) ok stands orderly = λ is. cc
-fair_line w s (Ok (lines.Clean name i)) ok stands orderly = λ is. cc
-fair_line w s (Ok (lines.Scan name)) ok stands orderly = λ is. cc
-fair_line w s (Ok (lines.Sync source destination keep clash options)) ok stands orderly =
-    fair_if (is_built keep clash options) _ _
-    (fair_session s source destination (member_of s.members source) (member_of s.members destination) options) (λ is. cc)
-fair_line w s (Ok (lines.Show name)) ok stands orderly = fair_show s name (member_of s.members name)
-fair_line w s (Ok (lines.Knows name i unit v)) ok stands orderly = fair_knows s name (member_of s.members name) i unit v
-fair_line w s (Ok (lines.Equal first second)) ok stands orderly =
-    fair_equal w s first second (member_of s.members first) (member_of s.members second) ok stands orderly refl refl
+    absurd (true≢false (sym (fair_two w s m n at.ok at.stands orderly here there parts.0) ∙ parts.1))
+form_fair w s t (counts s2 n count unsaid) at orderly = λ is. cc
+form_fair w s t (joins s2 name id fits some new) at orderly = λ is. cc
+form_fair w s t (edits s2 m n event reply edit) at orderly = edit.plain.fair
+form_fair w s t (refuses s2 m n fault here there why) at orderly = λ is. cc
+form_fair w s t (meets s2 m n options here there some free) at orderly = λ is. cc
 
 pub never_same_but_different : (w : World) (s : State) (line : List ℕ) → WellFormed w → StateStandsIn w (community_of s) → AreOrderly (community_of s)
     → (turn s line).reply ≢ Compared true false
-never_same_but_different w s line ok stands orderly = fair_line w s (reading_of line) ok stands orderly
+never_same_but_different w s line ok stands orderly =
+    form_fair w s (turn s line) (line_form s (reading_of line) (limits_kept line)) (record { ok = ok; stands = stands }) orderly

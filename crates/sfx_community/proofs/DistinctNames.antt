@@ -5,8 +5,8 @@ use Rattle.std.specs.List.{AllByRecursion, IsDistinct}
 use Rattle.std.specs.Map.{keys_of}
 use Rattle.std.specs.Str.{bytes_eq}
 use Rattle.std.proofs.lemmas.Map.Keys.{IsDistinct-head, IsDistinct-tail}
-use Rattle.sfx_community.specs.State.{KeptData, KeptMember, has_name, kept_as, members_view}
-use Rattle.sfx_community.proofs.Entries.{Entries}
+use Rattle.sfx_community.specs.State.{KeptData, has_name, kept_as, members_view}
+use Rattle.sfx_community.proofs.MapEntries.{Entries}
 
 -- a name that differs from those of all entries differs from that of each
 other_at : (x : List ℕ) (es : Entries) (i : ℕ) (name : List ℕ) (k : KeptData)

@@ -2,9 +2,9 @@
 use Rattle.std.specs.Prelude.{◌≡◌, ◌↔◌, ℕ, Bool, true, IsTrue}
 use Rattle.sfx_ids.specs.declared.item_id.ItemId.{ItemId}
 use Rattle.sfx_ids.specs.declared.version.Version.{Version}
-use Rattle.sfx_model.specs.Headline.{HaveEqualKnowledge, IsHeldOrCleaned, live_items}
-use Rattle.sfx_model.specs.Members.{Member, shown, state_of}
-use Rattle.sfx_model.specs.World.{World}
+use Rattle.sfx_model.specs.members.Headline.{HaveEqualKnowledge, IsHeldOrCleaned, live_items}
+use Rattle.sfx_model.specs.members.Members.{Member, shown, state_of}
+use Rattle.sfx_model.specs.world.World.{World}
 use Rattle.sfx_reply.specs.declared.reply.Reply.{Reply}
 use Rattle.sfx_reply.specs.declared.reply.Reply.TheVariants.{Compared, Known}
 

@@ -1,17 +1,17 @@
 -- What a script does in the world.
 use Rattle.std.specs.Prelude.{◌≡◌, ◌≢◌, ℕ, Bool, true, false, List, [], ◌∷◌}
 use Rattle.std.specs.List.{list_any}
-use Rattle.sfx_model.specs.Acting.{IsOrderly}
-use Rattle.sfx_model.specs.Events.{Event, Units, Widen, Join, Make, Clean, Forget, Apply, Learn, Deed, Own, ForgetFrom, ApplyFrom, LearnFrom, after_deed, after_deeds, event_of, AreLegalDeeds, IsNewId}
-use Rattle.sfx_model.specs.Headline.{FactsHold}
-use Rattle.sfx_model.specs.Members.{Community, NamedMember}
-use Rattle.sfx_model.specs.Standing.{AreDisjoint, HasNoOtherUnits, IsWhole, StateStandsIn}
-use Rattle.sfx_model.specs.Sets.{Has}
-use Rattle.sfx_model.specs.World.{World, WellFormed}
+use Rattle.sfx_model.specs.sessions.Acts.{IsOrderly}
+use Rattle.sfx_model.specs.world.Events.{Event, Units, Join, Deed, Own, after_deed, after_deeds, event_of, AreLegalDeeds, IsNewId}
+use Rattle.sfx_model.specs.members.Headline.{FactsHold}
+use Rattle.sfx_model.specs.members.Members.{Community, NamedMember}
+use Rattle.sfx_model.specs.members.StandsIn.{AreDisjoint, HasNoOtherUnits, IsWhole, StateStandsIn}
+use Rattle.sfx_model.specs.world.Sets.{Has}
+use Rattle.sfx_model.specs.world.World.{World, WellFormed}
 use Rattle.sfx_session.specs.declared.session_fault.SessionFault.TheVariants.{Ahead}
 use Rattle.sfx_reply.specs.declared.reason.Reason.TheVariants.{Session}
 use Rattle.sfx_reply.specs.declared.reply.Reply.{Reply}
-use Rattle.sfx_reply.specs.declared.reply.Reply.TheVariants.{Done, Created, Changed, Known, Compared, Shown, Synced, Refused}
+use Rattle.sfx_reply.specs.declared.reply.Reply.TheVariants.{Synced, Refused}
 use Rattle.sfx_community.specs.State.{State, community_of}
 use Rattle.sfx_community.specs.Turn.{Turns}
 
@@ -21,14 +21,8 @@ AreOrderly c = (m : NamedMember) → Has m c.members → IsOrderly c.units m.mem
 
 -- The reply tells what a session did.
 abbrev pub is_of_session : Reply → Bool
-is_of_session Done = false
-is_of_session (Created item) = false
-is_of_session (Changed version) = false
-is_of_session (Known known) = false
-is_of_session (Compared knowledge items) = false
-is_of_session (Shown text) = false
 is_of_session (Synced text end) = true
-is_of_session (Refused reason) = false
+is_of_session reply = false
 
 -- Some line ran a session.
 abbrev pub has_session : List Reply → Bool
@@ -46,20 +40,13 @@ AreNotAhead replies = (reply : Reply) → Has reply replies → IsNotAhead reply
 -- and a replica joins under an id that no other has.
 abbrev pub Fits : World → Event → Type 0
 Fits w (Units units) = HasNoOtherUnits w units
-Fits w (Widen more) = Unit {0}
 Fits w (Join id) = IsNewId w id
-Fits w (Make r i v contents) = Unit {0}
-Fits w (Clean r i v lo hi) = Unit {0}
-Fits w (Forget r snapshot lo hi) = Unit {0}
-Fits w (Apply r snapshot i v marks) = Unit {0}
-Fits w (Learn r snapshot lo hi left) = Unit {0}
+Fits w event = Unit {0}
 
 -- So does what the deed says.
 abbrev pub DeedFits : World → Deed → Type 0
 DeedFits w (Own event) = Fits w event
-DeedFits w (ForgetFrom r source lo hi) = Unit {0}
-DeedFits w (ApplyFrom r source i v marks) = Unit {0}
-DeedFits w (LearnFrom r source lo hi left) = Unit {0}
+DeedFits w deed = Unit {0}
 
 -- Each deed fits the world in which its turn comes.
 abbrev pub AllFit : World → List Deed → Type 0

@@ -1,4 +1,4 @@
-pub mod Comparing
+pub mod Sameness
 pub mod State
 pub mod Engine
 pub mod Turn

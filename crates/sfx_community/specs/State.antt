@@ -2,8 +2,8 @@
 use Rattle.std.specs.Prelude.{ℕ, Bool, if◌then◌else◌, Option, Some, None, List, [], ◌∷◌, ◌++◌, map}
 use Rattle.std.specs.List.{list_any}
 use Rattle.std.specs.Str.{bytes_eq}
-use Rattle.sfx_model.specs.Knowing.{names_id}
-use Rattle.sfx_model.specs.Members.{Member, NamedMember, Community}
+use Rattle.sfx_model.specs.sessions.MemberKnowledge.{names_id}
+use Rattle.sfx_model.specs.members.Members.{Member, NamedMember, Community}
 use Rattle.sfx_community.specs.declared.kind.Kind.{Kind}
 use Rattle.sfx_community.specs.declared.kind.Kind.TheVariants.{Record}
 use Rattle.sfx_community.specs.declared.pending.Pending.{Pending}
@@ -64,8 +64,8 @@ abbrev pub has_name : List ℕ → List KeptMember → Bool
 has_name name members = list_any (λ m. bytes_eq m.name name) members
 
 -- The id is taken: a member has it, or knows or has forgotten something that a replica with this id made.
-abbrev pub is_taken : ℕ → List KeptMember → Bool
-is_taken id members = list_any (λ m. names_id id m.member) members
+abbrev pub is_id_taken : ℕ → List KeptMember → Bool
+is_id_taken id members = list_any (λ m. names_id id m.member) members
 
 -- The replica in this state; how it is kept stays.
 abbrev pub become : Member → KeptMember → KeptMember

@@ -4,32 +4,32 @@ use Rattle.std.specs.Prelude.{ℕ, Bool, true, false, not, ◌==◌, ◌||◌, �
 use Rattle.sfx_ids.specs.declared.item_id.ItemId.{ItemId}
 use Rattle.sfx_ids.specs.declared.version.Version.{Version}
 use Rattle.sfx_model.specs.declared.clash_rule.ClashRule.{ClashRule}
-use Rattle.sfx_model.specs.declared.clash_rule.ClashRule.TheVariants as clashes
+use Rattle.sfx_model.specs.declared.clash_rule.ClashRule.TheVariants as clash_rules
 use Rattle.sfx_model.specs.declared.keep.Keep.{Keep}
 use Rattle.sfx_model.specs.declared.keep.Keep.TheVariants as keeps
-use Rattle.sfx_model.specs.Deeds.{session_deeds}
-use Rattle.sfx_model.specs.Events.{Deed, Event, Own, Units, Join, Make}
-use Rattle.sfx_model.specs.Members.{Member, contains}
-use Rattle.sfx_model.specs.Moments.{committed}
-use Rattle.sfx_model.specs.Rules.{Rules}
-use Rattle.sfx_model.specs.Session.{SessionResult, session_of}
-use Rattle.sfx_model.specs.States.{created_contents, edited_contents, next_item, next_version}
+use Rattle.sfx_model.specs.sessions.Deeds.{session_deeds}
+use Rattle.sfx_model.specs.world.Events.{Deed, Event, Own, Units, Join, Make}
+use Rattle.sfx_model.specs.members.Members.{Member, contains}
+use Rattle.sfx_model.specs.sessions.Moments.{committed}
+use Rattle.sfx_model.specs.sessions.Rules.{RulesData}
+use Rattle.sfx_model.specs.sessions.Session.{SessionResult, session_of}
+use Rattle.sfx_model.specs.members.States.{created_contents, edited_contents, next_item, next_version}
 use Rattle.sfx_replica.specs.declared.edit_fault.EditFault.{EditFault}
 use Rattle.sfx_replica.specs.declared.edit_fault.EditFault.TheVariants.{BadUnit}
 use Rattle.sfx_replica.specs.Edits.{created, edited, new_member}
 use Rattle.sfx_replica.specs.Refusals.{create_refusal, set_refusal}
 use Rattle.sfx_session.specs.declared.session_fault.SessionFault.{SessionFault}
-use Rattle.sfx_session.specs.Refusals.{refusal_of}
-use Rattle.sfx_settle.specs.Longer.{longer}
+use Rattle.sfx_session.specs.Refusals.{session_refusal}
+use Rattle.sfx_model.specs.sessions.Longer.{longer}
 use Rattle.sfx_script.specs.declared.options.Options.{Options}
 use Rattle.sfx_script.specs.declared.line.Line.{Line}
 use Rattle.sfx_script.specs.declared.line.Line.TheVariants as lines
 use Rattle.sfx_script.specs.Reading.{Read, reading_of}
 use Rattle.sfx_script.specs.Script.{is_passed}
-use Rattle.sfx_script.specs.Wrong.{place_of}
-use Rattle.sfx_community.specs.Comparing.{hold_same, know_same}
+use Rattle.sfx_script.specs.Wrong.{cause_place}
+use Rattle.sfx_community.specs.Sameness.{hold_same, know_same}
 use Rattle.sfx_reply.specs.Listing.{listing}
-use Rattle.sfx_community.specs.State.{KeptMember, State, is_taken, has_name, member_of, named_member, state_added, state_with}
+use Rattle.sfx_community.specs.State.{KeptMember, State, is_id_taken, has_name, member_of, named_member, state_added, state_with}
 use Rattle.sfx_reply.specs.Report.{report_text}
 use Rattle.sfx_reply.specs.declared.reason.Reason.{Reason}
 use Rattle.sfx_reply.specs.declared.reason.Reason.TheVariants.{Syntax, NotBuilt, BadUnits, UnitsSet, NoUnits, NameTaken, IdTaken, NoReplica, BadCount, Edit, Session}
@@ -79,7 +79,7 @@ abbrev pub replica_turn : State → List ℕ → ℕ → Turn
 replica_turn s name id =
     if nat_eq s.units 0 then refused s NoUnits
     else if has_name name s.members then refused s NameTaken
-    else if is_taken id s.members then refused s IdTaken
+    else if is_id_taken id s.members then refused s IdTaken
     else acted Done (Join id) (state_added name (new_member id) s)
 
 -- `create` makes an item of these values, where nothing refuses it.
@@ -160,19 +160,19 @@ leaves_changes keeps.Skip = true
 
 -- The session leaves alone items whose names clash.
 abbrev pub leaves_names : ClashRule → Bool
-leaves_names clashes.Source = false
-leaves_names clashes.Destination = false
-leaves_names clashes.RenameSource = false
-leaves_names clashes.RenameDestination = false
-leaves_names clashes.Skip = true
+leaves_names clash_rules.Source = false
+leaves_names clash_rules.Destination = false
+leaves_names clash_rules.RenameSource = false
+leaves_names clash_rules.RenameDestination = false
+leaves_names clash_rules.Skip = true
 
 -- The session is one of those that are built: it leaves each conflict alone, and shows no bytes.
 abbrev pub is_built : Keep → ClashRule → Options → Bool
 is_built keep clash options = leaves_changes keep && (leaves_names clash && not options.trace)
 
 -- The rules of the sessions that are built: each conflict is left alone, so nothing is merged.
-abbrev pub built_rules : Rules
-built_rules = record { keep = keeps.Skip; clash = clashes.Skip; merge = longer }
+abbrev pub built_rules : RulesData
+built_rules = record { keep = keeps.Skip; clash = clash_rules.Skip; merge = longer }
 
 -- A session under these options from one member to another.
 abbrev pub session_under : ℕ → Member → Member → Options → SessionResult
@@ -206,7 +206,7 @@ abbrev pub session_at : State → List ℕ → List ℕ → Option KeptMember �
 session_at s source destination None other options = refused s (NoReplica source)
 session_at s source destination (Some m) None options = refused s (NoReplica destination)
 session_at s source destination (Some m) (Some n) options =
-    sync_by s m n options (refusal_of s.units m.member n.member)
+    sync_by s m n options (session_refusal s.units m.member n.member)
 
 -- The line `sync` of a session that is built.
 abbrev pub session_turn : State → List ℕ → List ℕ → Options → Turn
@@ -221,17 +221,7 @@ sync_turn s source destination keep clash options =
 -- The line says the unit count.
 abbrev pub is_units : Line → Bool
 is_units (lines.Units n) = true
-is_units (lines.Replica name id) = false
-is_units (lines.Files name id) = false
-is_units (lines.Create replica values) = false
-is_units (lines.Set replica item unit value) = false
-is_units (lines.Delete replica item) = false
-is_units (lines.Clean replica item) = false
-is_units (lines.Scan replica) = false
-is_units (lines.Sync source destination keep clash options) = false
-is_units (lines.Show replica) = false
-is_units (lines.Knows replica item unit version) = false
-is_units (lines.Equal first second) = false
+is_units line = false
 
 -- What comes of a line.
 abbrev pub turn_of : State → Line → Turn
@@ -251,7 +241,7 @@ turn_of s (lines.Equal first second) = equal_turn s first second
 -- What comes of a line as it was read: bytes that are none are refused for where they go wrong first.
 abbrev pub turn_by : State → Read Line → Turn
 turn_by s (Ok line) = turn_of s line
-turn_by s (Err cause) = refused s (Syntax (place_of cause))
+turn_by s (Err cause) = refused s (Syntax (cause_place cause))
 
 -- What comes of a line of a script.
 abbrev pub turn : State → List ℕ → Turn

@@ -1,7 +1,7 @@
 //! Two replicas compared.
 ghost use Rattle.std.specs.Prelude.{◌≡◌, IfOk};
-ghost use Rattle.sfx_model.specs.Knowing.{laid_known};
-ghost use Rattle.sfx_community.specs.Comparing.{know_same, same_segments};
+ghost use Rattle.sfx_model.specs.sessions.MemberKnowledge.{laid_known};
+ghost use Rattle.sfx_community.specs.Sameness.{know_same, same_segments};
 
 use sfx_ids::Memory;
 use sfx_knowledge::Knowledge;

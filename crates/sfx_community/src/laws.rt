@@ -1,13 +1,13 @@
 ghost use Rattle.std.specs.Prelude.{◌≡◌, ◌≢◌, ◌⊎◌, ◌<◌, ◌++◌, false, true, List, Some, ℕ};
 ghost use Rattle.sfx_ids.specs.declared.item_id.ItemId.{ItemId};
 ghost use Rattle.sfx_ids.specs.declared.version.Version.{Version};
-ghost use Rattle.sfx_model.specs.Events.{after_deeds};
-ghost use Rattle.sfx_model.specs.Standing.{HasMember, IsWhole, StateStandsIn};
-ghost use Rattle.sfx_model.specs.World.{Made, World, WellFormed};
+ghost use Rattle.sfx_model.specs.world.Events.{after_deeds};
+ghost use Rattle.sfx_model.specs.members.StandsIn.{HasMember, IsWhole, StateStandsIn};
+ghost use Rattle.sfx_model.specs.world.World.{Made, World, WellFormed};
 ghost use Rattle.sfx_reply.specs.declared.reply.Reply.TheVariants.{Compared};
 ghost use Rattle.sfx_community.specs.Comparisons.{IsAccount, IsComparison};
 ghost use Rattle.sfx_community.specs.History.{AllFit, AreNotAhead, AreOrderly, HasHappened, IsAllOf, has_session};
-ghost use Rattle.sfx_community.specs.State.{KeptMember, State, community_of, is_taken, member_of};
+ghost use Rattle.sfx_community.specs.State.{KeptMember, State, community_of, is_id_taken, member_of};
 ghost use Rattle.sfx_community.specs.Turn.{equal_turn, knows_turn, last_or, turn, turns};
 
 /// What the lines of a script do happens in every well-formed world in which the state stands, where what
@@ -57,7 +57,7 @@ pub fn commits_end_in_state()
 pub fn taken_ids_have_members()
     ensures { (w : World) (s : State) (id : ℕ) →
         StateStandsIn w (community_of s) → IsWhole w (community_of s) → AreOrderly (community_of s) →
-        is_taken id s.members ≡ true → HasMember (community_of s) id }
+        is_id_taken id s.members ≡ true → HasMember (community_of s) id }
 {}
 
 /// What the lines `equal` and `knows` tell is what the replicas know and hold. A law: nothing happens when

@@ -2,8 +2,8 @@
 ghost use Rattle.std.specs.Prelude.{◌≡◌, [], IfOk, IsErrOf};
 ghost use Rattle.sfx_script.specs.Limits.{AreWithinLimits};
 ghost use Rattle.sfx_provider.specs.Answer.{Refuses};
-ghost use Rattle.sfx_session.specs.Fault.{is_refusal};
-ghost use Rattle.sfx_session.specs.Refusals.{refusal_of};
+ghost use Rattle.sfx_session.specs.Fault.{refuses_session};
+ghost use Rattle.sfx_session.specs.Refusals.{session_refusal};
 ghost use Rattle.sfx_session.specs.Report.{report_of};
 ghost use Rattle.sfx_community.specs.Turn.{built_rules, session_under};
 
@@ -40,7 +40,7 @@ pub fn meet<const U: usize>(
     options: &Options,
 ) -> Result<Meeting<U>, SessionFault>
     requires limits { AreWithinLimits options.now }
-    ensures refused { Refuses is_refusal result (refusal_of U source.now destination.now) }
+    ensures refused { Refuses refuses_session result (session_refusal U source.now destination.now) }
     ensures report { let o = options.now in
         IfOk result (λ met. met.report ≡ report_of U source.now destination.now built_rules o.batch o.cut) }
     ensures destination { let whole = session_under U source.now destination.now options.now in

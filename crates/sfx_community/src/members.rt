@@ -38,8 +38,8 @@ impl<const U: usize> Model for Members<U> {
 
 impl<const U: usize> Members<U> {
     ghost use Rattle.std.specs.Prelude.{[]};
-    ghost use Rattle.sfx_model.specs.Knowing.{names_id};
-    ghost use Rattle.sfx_community.specs.State.{has_name, is_taken, kept_as, member_of, members_with, state_among};
+    ghost use Rattle.sfx_model.specs.sessions.MemberKnowledge.{names_id};
+    ghost use Rattle.sfx_community.specs.State.{has_name, is_id_taken, kept_as, member_of, members_with, state_among};
 
     /// There is no replica.
     pub(crate) fn new(alloc: Global) -> Self
@@ -134,7 +134,7 @@ impl<const U: usize> Members<U> {
 
     /// Whether the id is taken: a replica here has it, or has heard of one that has.
     fn is_taken(&self, id: &ReplicaId) -> bool
-        ensures { result ≡ is_taken id.now self.now }
+        ensures { result ≡ is_id_taken id.now self.now }
     {
         for i in 0..self.kept.len() {
             if self.names_at(i, id) {

@@ -53,7 +53,7 @@ pub(crate) fn no_replica(name: Text) -> Reply
     Reply::Refused(Reason::NoReplica(name))
 }
 
-/// The refusal of a line whose edit a replica refuses. Want of memory refuses no line.
+/// The refusal of a line whose edit a replica refuses. Running out of memory refuses no line.
 pub(crate) fn refusal(fault: EditFault) -> Result<Reply, Memory>
     ensures { IfOk result (λ reply. (reply ≡ Refused (Edit fault)) × (is_memory fault ≡ false)) }
 {
@@ -63,14 +63,14 @@ pub(crate) fn refusal(fault: EditFault) -> Result<Reply, Memory>
     Ok(Reply::Refused(Reason::Edit(fault)))
 }
 
-/// Whether the refusal is want of memory.
+/// Whether memory ran out.
 fn is_memory(fault: &EditFault) -> bool
     ensures { result ≡ is_memory fault.now }
 {
     matches!(fault, EditFault::Memory)
 }
 
-/// The refusal of a line whose session is refused. Want of memory refuses no line.
+/// The refusal of a line whose session is refused. Running out of memory refuses no line.
 pub(crate) fn session_refusal(fault: SessionFault) -> Result<Reply, Memory>
     requires source { fault ≢ SessionFault.Source }
     requires destination { fault ≢ SessionFault.Destination }

@@ -19,11 +19,11 @@ pub struct State {
 
 impl Model for State {
     ghost use Rattle.sfx_community.specs.State.{State};
-    ghost use Rattle.sfx_community.specs.Engine.{state_view};
+    ghost use Rattle.sfx_community.specs.Engine.{engine_view};
 
     ghost Value = { State };
 
-    ghost view = { λ s. state_view s.engine };
+    ghost view = { λ s. engine_view s.engine };
 }
 
 /// The replicas, by how many change units their items have; none before that is said.
@@ -68,14 +68,14 @@ impl State {
         ensures err { OnErr result (self.new ≡ self.old) }
     {
         match parse_line(alloc, line) {
-            Ok(line) => self.answer(alloc, line),
+            Ok(line) => self.run_read_line(alloc, line),
             Err(LineFault::Syntax(at)) => Ok(Reply::Refused(Reason::Syntax(at))),
             Err(LineFault::Memory) => Err(Memory),
         }
     }
 
     /// Runs a line that was read.
-    fn answer(&mut self, alloc: Global, line: Line) -> Result<Reply, Memory>
+    fn run_read_line(&mut self, alloc: Global, line: Line) -> Result<Reply, Memory>
         requires limits { IsLimited line }
         ensures reply { IfOk result (λ reply. reply ≡ (turn_of self.old line).reply) }
         ensures after { OnOk result (self.new ≡ (turn_of self.old line).state) }
@@ -83,7 +83,7 @@ impl State {
     {
         match line {
             Line::Units { n } => Ok(self.set_units(alloc, n)),
-            line => self.engine.answer(alloc, line),
+            line => self.engine.run_among(alloc, line),
         }
     }
 
@@ -106,11 +106,11 @@ impl State {
 }
 
 impl Engine {
-    ghost use Rattle.sfx_community.specs.Engine.{state_view};
+    ghost use Rattle.sfx_community.specs.Engine.{engine_view};
 
     /// Equal replicas of their own memory, under the same unit count.
     fn copy(&self, alloc: Global) -> Result<Self, Memory>
-        ensures { IfOk result (λ copy. state_view copy ≡ state_view self.now) }
+        ensures { IfOk result (λ copy. engine_view copy ≡ engine_view self.now) }
     {
         match self {
             Engine::Unset => Ok(Engine::Unset),
@@ -121,13 +121,13 @@ impl Engine {
         }
     }
 
-    /// Runs a line that was read, other than `units`.
-    fn answer(&mut self, alloc: Global, line: Line) -> Result<Reply, Memory>
+    /// Runs a line that was read, other than `units`, among the replicas.
+    fn run_among(&mut self, alloc: Global, line: Line) -> Result<Reply, Memory>
         requires other { is_units line ≡ false }
         requires limits { IsLimited line }
-        ensures reply { IfOk result (λ reply. reply ≡ (turn_of (state_view self.old) line).reply) }
-        ensures after { OnOk result (state_view self.new ≡ (turn_of (state_view self.old) line).state) }
-        ensures err { OnErr result (state_view self.new ≡ state_view self.old) }
+        ensures reply { IfOk result (λ reply. reply ≡ (turn_of (engine_view self.old) line).reply) }
+        ensures after { OnOk result (engine_view self.new ≡ (turn_of (engine_view self.old) line).state) }
+        ensures err { OnErr result (engine_view self.new ≡ engine_view self.old) }
     {
         match self {
             Engine::Unset => Ok(refusal_unset(line)),

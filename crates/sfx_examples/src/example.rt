@@ -1,3 +1,5 @@
+ghost use Rattle.std.specs.Prelude.{◌≡◌, ◌↔◌, None};
+
 use sfx_community::State;
 use sfx_outside::{MemorySink, SinkFault};
 use sfx_run::play;
@@ -49,8 +51,10 @@ fn add_line(played: &mut String, mark: &str, line: &str) -> io::Result<()> {
     Ok(())
 }
 
-/// The index of the first line at which two texts differ, if they do.
-pub fn difference(one: &str, other: &str) -> Option<usize> {
+/// The index of the first line at which two texts differ; none exactly where they are the same.
+pub fn difference(one: &str, other: &str) -> Option<usize>
+    ensures { (result ≡ None) ↔ (one.now ≡ other.now) }
+{
     if one == other {
         return None;
     }

@@ -35,7 +35,7 @@ digit_fits d small = grind (arith, nat_tests)
 pub AreIdBytes-decimal : (n : ℕ) → n < 2 ^ 64 → AreIdBytes (decimal n)
 AreIdBytes-decimal =
     decimal_by_steps (λ n ds. AreIdBytes ds) (λ n small. one_byte (48 + n) (digit_fits n small))
-    (λ n ds big front. All-append (λ b. is_id_byte b ≡ true) ds ((48 + n % 10) ∷ []) front (one_byte (48 + n % 10) (digit_fits (n % 10) (omega arith))))
+    (λ n ds big prefix. All-append (λ b. is_id_byte b ≡ true) ds ((48 + n % 10) ∷ []) prefix (one_byte (48 + n % 10) (digit_fits (n % 10) (omega arith))))
 
 character_fits : (is_hyphen : Bool) (digit : ℕ) → digit < 16 → is_id_byte (if is_hyphen then hyphen else hex_digit lower digit) ≡ true
 character_fits true digit small = refl

@@ -1,7 +1,7 @@
 -- An item's text is that of its tick and its replica.
 use Rattle.std.proofs.Common.{◌≡◌, ℕ, ◌<◌, ◌^◌, List, take, Some, Option, Result, Ok, unwrap_or, ap}
 use Rattle.sfx_ids.specs.declared.item_id.ItemId.{ItemId}
-use Rattle.sfx_ids.specs.Front.{BeginsPair, BeginsItem, IsLongestFront}
+use Rattle.sfx_ids.specs.Prefix.{BeginsPair, BeginsItem, IsLongestPrefix}
 use Rattle.sfx_ids.specs.ItemId.{IsItemId}
 use Rattle.sfx_ids.specs.Text.{item_text, pair_text, colon}
 use Rattle.sfx_ids.specs.Tick.{IsTick}
@@ -29,28 +29,28 @@ pair_of_item id text is_text = is_text
 
 item_begins : (text : List ℕ) → BeginsPair colon text → BeginsItem text
 unfolding item_text
-item_begins text front = record {
-  item = item_of (front.tick, front.replica);
-  rest = front.rest;
-  valid = record { tick = front.is_tick; replica = front.is_replica };
-  spelled = front.spelled;
+item_begins text prefix = record {
+  item = item_of (prefix.tick, prefix.replica);
+  rest = prefix.rest;
+  valid = record { tick = prefix.is_tick; replica = prefix.is_replica };
+  spelled = prefix.spelled;
 }
 
 begins_item : (text : List ℕ) → BeginsItem text → BeginsPair colon text
 unfolding item_text
-begins_item text front = record {
-  tick = front.item.tick;
-  replica = front.item.replica;
-  rest = front.rest;
-  is_tick = front.valid.tick;
-  is_replica = front.valid.replica;
-  spelled = front.spelled;
+begins_item text prefix = record {
+  tick = prefix.item.tick;
+  replica = prefix.item.replica;
+  rest = prefix.rest;
+  is_tick = prefix.valid.tick;
+  is_replica = prefix.valid.replica;
+  spelled = prefix.spelled;
 }
 
--- the longest front that begins an item is the longest that begins its pair
-pub longest_item : (text : List ℕ) (at : ℕ) → IsLongestFront (BeginsPair colon) text at → IsLongestFront BeginsItem text at
+-- the longest prefix that begins an item is the longest that begins its pair
+pub longest_item : (text : List ℕ) (at : ℕ) → IsLongestPrefix (BeginsPair colon) text at → IsLongestPrefix BeginsItem text at
 longest_item text at longest = record {
   within = longest.within;
   begins = item_begins (take at text) longest.begins;
-  longest = λ n within front. longest.longest n within (begins_item (take n text) front);
+  longest = λ n within prefix. longest.longest n within (begins_item (take n text) prefix);
 }

@@ -10,8 +10,8 @@ use Rattle.std.specs.Int.{from_be_bytes, to_be_bytes, w64, w128}
 pub record AreBytes (bs : List ℕ) : Type 0 where
   pub fit : (i : ℕ) → get_or bs i 0 < 256
 
-front_fits : (n : ℕ) (bs : List ℕ) → AreBytes bs → AreBytes (take n bs)
-front_fits n bs bytes = record {
+prefix_fits : (n : ℕ) (bs : List ℕ) → AreBytes bs → AreBytes (take n bs)
+prefix_fits n bs bytes = record {
   fit = λ i. elim (cases_lt i n) [
     | inl within ↦ rw (get_or-take n bs i 0 within) (bytes.fit i)
     | inr over ↦ rw (get_or_past (take n bs) i 0 (omega (arith, length-take n bs))) (omega arith)
@@ -66,13 +66,13 @@ to_be_bytes-from_be_bytes_16 (b0 ∷ b1 ∷ b2 ∷ b3 ∷ b4 ∷ b5 ∷ b6 ∷ b
 to_be_bytes-from_be_bytes_16 (b0 ∷ b1 ∷ b2 ∷ b3 ∷ b4 ∷ b5 ∷ b6 ∷ b7 ∷ b8 ∷ b9 ∷ b10 ∷ b11 ∷ b12 ∷ b13 ∷ []) len bytes = absurd (omega arith)
 to_be_bytes-from_be_bytes_16 (b0 ∷ b1 ∷ b2 ∷ b3 ∷ b4 ∷ b5 ∷ b6 ∷ b7 ∷ b8 ∷ b9 ∷ b10 ∷ b11 ∷ b12 ∷ b13 ∷ b14 ∷ []) len bytes = absurd (omega arith)
 to_be_bytes-from_be_bytes_16 (b0 ∷ b1 ∷ b2 ∷ b3 ∷ b4 ∷ b5 ∷ b6 ∷ b7 ∷ b8 ∷ b9 ∷ b10 ∷ b11 ∷ b12 ∷ b13 ∷ b14 ∷ b15 ∷ []) len bytes =
-    let front = front_fits 8 (b0 ∷ b1 ∷ b2 ∷ b3 ∷ b4 ∷ b5 ∷ b6 ∷ b7 ∷ b8 ∷ b9 ∷ b10 ∷ b11 ∷ b12 ∷ b13 ∷ b14 ∷ b15 ∷ []) bytes in
+    let prefix = prefix_fits 8 (b0 ∷ b1 ∷ b2 ∷ b3 ∷ b4 ∷ b5 ∷ b6 ∷ b7 ∷ b8 ∷ b9 ∷ b10 ∷ b11 ∷ b12 ∷ b13 ∷ b14 ∷ b15 ∷ []) bytes in
     let rest = rest_fits 8 (b0 ∷ b1 ∷ b2 ∷ b3 ∷ b4 ∷ b5 ∷ b6 ∷ b7 ∷ b8 ∷ b9 ∷ b10 ∷ b11 ∷ b12 ∷ b13 ∷ b14 ∷ b15 ∷ []) bytes in
     let high = from_be_bytes w64 (b0 ∷ b1 ∷ b2 ∷ b3 ∷ b4 ∷ b5 ∷ b6 ∷ b7 ∷ []) in
     let low = from_be_bytes w64 (b8 ∷ b9 ∷ b10 ∷ b11 ∷ b12 ∷ b13 ∷ b14 ∷ b15 ∷ []) in
     let fits : low < 2 ^ 64 = omega (arith, rest.fit 0, rest.fit 1, rest.fit 2, rest.fit 3, rest.fit 4, rest.fit 5, rest.fit 6, rest.fit 7) in
     let number : from_be_bytes w128 (b0 ∷ b1 ∷ b2 ∷ b3 ∷ b4 ∷ b5 ∷ b6 ∷ b7 ∷ b8 ∷ b9 ∷ b10 ∷ b11 ∷ b12 ∷ b13 ∷ b14 ∷ b15 ∷ []) ≡ high * 2 ^ 64 + low = omega arith in
-    let high_back = be_bytes_8 (b0 ∷ b1 ∷ b2 ∷ b3 ∷ b4 ∷ b5 ∷ b6 ∷ b7 ∷ []) high refl front.fit refl in
+    let high_back = be_bytes_8 (b0 ∷ b1 ∷ b2 ∷ b3 ∷ b4 ∷ b5 ∷ b6 ∷ b7 ∷ []) high refl prefix.fit refl in
     let low_back = be_bytes_8 (b8 ∷ b9 ∷ b10 ∷ b11 ∷ b12 ∷ b13 ∷ b14 ∷ b15 ∷ []) low refl rest.fit refl in
     ap (to_be_bytes w128) number ∙ halves high low fits ∙ ap (λ l. l ++ to_be_bytes w64 low) high_back ∙ ap (λ l. (b0 ∷ b1 ∷ b2 ∷ b3 ∷ b4 ∷ b5 ∷ b6 ∷ b7 ∷ []) ++ l) low_back
 to_be_bytes-from_be_bytes_16 (b0 ∷ b1 ∷ b2 ∷ b3 ∷ b4 ∷ b5 ∷ b6 ∷ b7 ∷ b8 ∷ b9 ∷ b10 ∷ b11 ∷ b12 ∷ b13 ∷ b14 ∷ b15 ∷ b16 ∷ bs) len bytes = absurd (omega arith)

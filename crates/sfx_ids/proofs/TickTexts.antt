@@ -24,16 +24,16 @@ digit_more : (text : List ℕ) (d : ℕ) → d < 10 → AreDigits text → AreDi
 digit_more text d small digits = record { low = λ i here. low_of i here (cases_lt i (length text)); high = λ i here. high_of i here (cases_lt i (length text)) }
   where
     low_of : (i : ℕ) → i < length (text ++ (48 + d) ∷ []) → (i < length text) ⊎ (length text ≤ i) → 48 ≤ get_or (text ++ (48 + d) ∷ []) i 0
-    low_of i here (inl front) = rw (get_or_append_left text ((48 + d) ∷ []) 0 i front) (digits.low i front)
+    low_of i here (inl prefix) = rw (get_or_append_left text ((48 + d) ∷ []) 0 i prefix) (digits.low i prefix)
     low_of i here (inr last) = rw (get_or_push text (48 + d) 0 i (omega (arith, length-append text ((48 + d) ∷ [])))) (omega arith)
 
     high_of : (i : ℕ) → i < length (text ++ (48 + d) ∷ []) → (i < length text) ⊎ (length text ≤ i) → get_or (text ++ (48 + d) ∷ []) i 0 ≤ 57
-    high_of i here (inl front) = rw (get_or_append_left text ((48 + d) ∷ []) 0 i front) (digits.high i front)
+    high_of i here (inl prefix) = rw (get_or_append_left text ((48 + d) ∷ []) 0 i prefix) (digits.high i prefix)
     high_of i here (inr last) = rw (get_or_push text (48 + d) 0 i (omega (arith, length-append text ((48 + d) ∷ [])))) (omega arith)
 
 pub AreDigits-decimal : (n : ℕ) → n < 2 ^ 64 → AreDigits (decimal n)
 AreDigits-decimal =
-    decimal_by_steps (λ n ds. AreDigits ds) (λ n small. one_digit n small) (λ n ds big front. digit_more ds (n % 10) (omega arith) front)
+    decimal_by_steps (λ n ds. AreDigits ds) (λ n small. one_digit n small) (λ n ds big prefix. digit_more ds (n % 10) (omega arith) prefix)
 
 -- no separator stands among the digits
 pub no_separator : (n c : ℕ) → n < 2 ^ 64 → 57 < c → (i : ℕ) → i < length (decimal n) → get_or (decimal n) i 0 ≢ c

@@ -1,7 +1,7 @@
 -- A version's text is that of its tick and its replica.
 use Rattle.std.proofs.Common.{◌≡◌, ℕ, ◌<◌, ◌^◌, List, take, Some, Option, Result, Ok, unwrap_or, ap}
 use Rattle.sfx_ids.specs.declared.version.Version.{Version}
-use Rattle.sfx_ids.specs.Front.{BeginsPair, BeginsVersion, IsLongestFront}
+use Rattle.sfx_ids.specs.Prefix.{BeginsPair, BeginsVersion, IsLongestPrefix}
 use Rattle.sfx_ids.specs.Version.{IsVersion}
 use Rattle.sfx_ids.specs.Text.{version_text, pair_text, at_sign}
 use Rattle.sfx_ids.specs.Tick.{IsTick}
@@ -29,28 +29,28 @@ pair_of_version version text is_text = is_text
 
 version_begins : (text : List ℕ) → BeginsPair at_sign text → BeginsVersion text
 unfolding version_text
-version_begins text front = record {
-  version = version_of (front.tick, front.replica);
-  rest = front.rest;
-  valid = record { tick = front.is_tick; replica = front.is_replica };
-  spelled = front.spelled;
+version_begins text prefix = record {
+  version = version_of (prefix.tick, prefix.replica);
+  rest = prefix.rest;
+  valid = record { tick = prefix.is_tick; replica = prefix.is_replica };
+  spelled = prefix.spelled;
 }
 
 begins_version : (text : List ℕ) → BeginsVersion text → BeginsPair at_sign text
 unfolding version_text
-begins_version text front = record {
-  tick = front.version.tick;
-  replica = front.version.replica;
-  rest = front.rest;
-  is_tick = front.valid.tick;
-  is_replica = front.valid.replica;
-  spelled = front.spelled;
+begins_version text prefix = record {
+  tick = prefix.version.tick;
+  replica = prefix.version.replica;
+  rest = prefix.rest;
+  is_tick = prefix.valid.tick;
+  is_replica = prefix.valid.replica;
+  spelled = prefix.spelled;
 }
 
--- the longest front that begins a version is the longest that begins its pair
-pub longest_version : (text : List ℕ) (at : ℕ) → IsLongestFront (BeginsPair at_sign) text at → IsLongestFront BeginsVersion text at
+-- the longest prefix that begins a version is the longest that begins its pair
+pub longest_version : (text : List ℕ) (at : ℕ) → IsLongestPrefix (BeginsPair at_sign) text at → IsLongestPrefix BeginsVersion text at
 longest_version text at longest = record {
   within = longest.within;
   begins = version_begins (take at text) longest.begins;
-  longest = λ n within front. longest.longest n within (begins_version (take n text) front);
+  longest = λ n within prefix. longest.longest n within (begins_version (take n text) prefix);
 }

@@ -3,6 +3,6 @@ pub mod ItemId
 pub mod Version
 pub mod Cut
 pub mod Text
-pub mod Front
+pub mod Prefix
 pub mod Steps
-pub mod FrontLen
+pub mod PrefixLen

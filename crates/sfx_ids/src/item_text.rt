@@ -1,12 +1,12 @@
 ghost use Rattle.std.specs.Prelude.{◌≡◌, ◌++◌, Ok, OnOk, OnErr, IfOk, IfErr};
 ghost use Rattle.sfx_ids.specs.declared.item_id.ItemId.{ItemId};
-ghost use Rattle.sfx_ids.specs.Front.{BeginsItem, IsLongestFront};
-ghost use Rattle.sfx_ids.specs.FrontLen.{item_front};
+ghost use Rattle.sfx_ids.specs.Prefix.{BeginsItem, IsLongestPrefix};
+ghost use Rattle.sfx_ids.specs.PrefixLen.{item_prefix};
 ghost use Rattle.sfx_ids.specs.ItemId.{IsItemId};
 ghost use Rattle.sfx_ids.specs.Text.{item_text};
 
-use crate::front::front_len;
 use crate::pair_text::{read_pair, write_pair};
+use crate::prefix::prefix_len;
 use crate::{ItemId, Memory};
 use std::error::Error;
 use std::fmt;
@@ -14,7 +14,7 @@ use std::fmt;
 /// A text that is no item's, and where it goes wrong.
 #[derive(Clone, Copy, Debug, PartialEq, Eq)]
 pub struct BadItemId {
-    /// The length in bytes of the longest front of the text that begins some item's text. Where
+    /// The length in bytes of the longest prefix of the text that begins some item's text. Where
     /// the whole text does, that is its length.
     pub at: usize,
 }
@@ -42,8 +42,8 @@ pub fn write_item(out: &mut Vec<u8>, id: &ItemId) -> Result<(), Memory>
 pub fn parse_item(text: &str) -> Result<ItemId, BadItemId>
     ensures ok { IfOk result (λ id. IsItemId id × (text.now ≡ item_text id)) }
     ensures only { (id : ItemId) → IsItemId id → text.now ≡ item_text id → result ≡ Ok id }
-    ensures err { IfErr result (λ bad. IsLongestFront BeginsItem text.now bad.at) }
-    ensures place { IfErr result (λ bad. bad.at ≡ item_front text.now) }
+    ensures err { IfErr result (λ bad. IsLongestPrefix BeginsItem text.now bad.at) }
+    ensures place { IfErr result (λ bad. bad.at ≡ item_prefix text.now) }
 {
     match read_pair(text, b':') {
         Some(pair) => Ok(ItemId {
@@ -51,7 +51,7 @@ pub fn parse_item(text: &str) -> Result<ItemId, BadItemId>
             replica: pair.1,
         }),
         None => Err(BadItemId {
-            at: front_len(text.as_bytes(), b':'),
+            at: prefix_len(text.as_bytes(), b':'),
         }),
     }
 }

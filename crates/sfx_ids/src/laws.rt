@@ -8,8 +8,8 @@ ghost use Rattle.sfx_ids.specs.declared.cut.Cut.TheVariants.{Start, At, After, E
 ghost use Rattle.sfx_ids.specs.declared.item_id.ItemId.{ItemId};
 ghost use Rattle.sfx_ids.specs.declared.version.Version.{Version};
 ghost use Rattle.sfx_ids.specs.Cut.{IsCut, cut_cmp, cut_lt, cut_le, is_between};
-ghost use Rattle.sfx_ids.specs.Front.{BeginsItem, BeginsVersion, IsLongestFront};
-ghost use Rattle.sfx_ids.specs.FrontLen.{item_front, version_front};
+ghost use Rattle.sfx_ids.specs.Prefix.{BeginsItem, BeginsVersion, IsLongestPrefix};
+ghost use Rattle.sfx_ids.specs.PrefixLen.{item_prefix, version_prefix};
 ghost use Rattle.sfx_ids.specs.ItemId.{IsItemId};
 ghost use Rattle.sfx_ids.specs.Text.{replica_text, item_text, version_text, cut_text};
 ghost use Rattle.sfx_ids.specs.Version.{IsVersion};
@@ -25,12 +25,12 @@ pub fn texts_tell_apart()
     ensures cuts { (a b : Cut) → IsCut a → IsCut b → cut_text a ≡ cut_text b → a ≡ b }
 {}
 
-/// Where a text goes wrong, as a function of it: `item_front` is the length of the longest front of
-/// any text that begins some item's text, and `version_front` that of the longest that begins some
+/// Where a text goes wrong, as a function of it: `item_prefix` is the length of the longest prefix of
+/// any text that begins some item's text, and `version_prefix` that of the longest that begins some
 /// version's.
-pub fn fronts_are_measured()
-    ensures item { (text : List ℕ) → IsLongestFront BeginsItem text (item_front text) }
-    ensures version { (text : List ℕ) → IsLongestFront BeginsVersion text (version_front text) }
+pub fn prefixes_are_measured()
+    ensures item { (text : List ℕ) → IsLongestPrefix BeginsItem text (item_prefix text) }
+    ensures version { (text : List ℕ) → IsLongestPrefix BeginsVersion text (version_prefix text) }
 {}
 
 /// The order of cuts is total and tells them apart. `Start` is the first and `End` the last, and the

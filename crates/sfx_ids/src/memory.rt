@@ -4,7 +4,7 @@ use std::alloc::{AllocError, AllocFailed};
 use std::error::Error;
 use std::fmt;
 
-/// Want of memory: an allocation was refused.
+/// Out of memory: an allocation was refused.
 #[derive(Clone, Copy, Debug, PartialEq, Eq)]
 pub struct Memory;
 

@@ -1,12 +1,12 @@
 ghost use Rattle.std.specs.Prelude.{◌≡◌, ◌++◌, Ok, OnOk, OnErr, IfOk, IfErr};
 ghost use Rattle.sfx_ids.specs.declared.version.Version.{Version};
-ghost use Rattle.sfx_ids.specs.Front.{BeginsVersion, IsLongestFront};
-ghost use Rattle.sfx_ids.specs.FrontLen.{version_front};
+ghost use Rattle.sfx_ids.specs.Prefix.{BeginsVersion, IsLongestPrefix};
+ghost use Rattle.sfx_ids.specs.PrefixLen.{version_prefix};
 ghost use Rattle.sfx_ids.specs.Version.{IsVersion};
 ghost use Rattle.sfx_ids.specs.Text.{version_text};
 
-use crate::front::front_len;
 use crate::pair_text::{read_pair, write_pair};
+use crate::prefix::prefix_len;
 use crate::{Memory, Version};
 use std::error::Error;
 use std::fmt;
@@ -14,7 +14,7 @@ use std::fmt;
 /// A text that is no version's, and where it goes wrong.
 #[derive(Clone, Copy, Debug, PartialEq, Eq)]
 pub struct BadVersion {
-    /// The length in bytes of the longest front of the text that begins some version's text. Where
+    /// The length in bytes of the longest prefix of the text that begins some version's text. Where
     /// the whole text does, that is its length.
     pub at: usize,
 }
@@ -42,8 +42,8 @@ pub fn write_version(out: &mut Vec<u8>, version: &Version) -> Result<(), Memory>
 pub fn parse_version(text: &str) -> Result<Version, BadVersion>
     ensures ok { IfOk result (λ version. IsVersion version × (text.now ≡ version_text version)) }
     ensures only { (version : Version) → IsVersion version → text.now ≡ version_text version → result ≡ Ok version }
-    ensures err { IfErr result (λ bad. IsLongestFront BeginsVersion text.now bad.at) }
-    ensures place { IfErr result (λ bad. bad.at ≡ version_front text.now) }
+    ensures err { IfErr result (λ bad. IsLongestPrefix BeginsVersion text.now bad.at) }
+    ensures place { IfErr result (λ bad. bad.at ≡ version_prefix text.now) }
 {
     match read_pair(text, b'@') {
         Some(pair) => Ok(Version {
@@ -51,7 +51,7 @@ pub fn parse_version(text: &str) -> Result<Version, BadVersion>
             tick: pair.0,
         }),
         None => Err(BadVersion {
-            at: front_len(text.as_bytes(), b'@'),
+            at: prefix_len(text.as_bytes(), b'@'),
         }),
     }
 }

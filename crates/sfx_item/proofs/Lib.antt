@@ -1,4 +1,4 @@
-pub mod Below
-pub mod Decisions
-pub mod Places
-pub mod Renaming
+pub mod ClashLemmas
+pub mod NamesAreDecided
+pub mod NameLemmas
+pub mod RenamedLemmas

@@ -6,9 +6,9 @@ use Rattle.std.specs.Str.Lossy.{utf8_valid_len}
 use Rattle.sfx_item.specs.Name.{slash}
 
 -- The bytes begin with a control character, as its one byte or its two.
-abbrev pub is_control_front : List ℕ → Bool
-is_control_front [] = false
-is_control_front (b ∷ bytes) = nat_lt b 32 || (b == 127 || (b == 194 && is_in_range 128 159 (slice_index bytes 0)))
+abbrev pub is_control_prefix : List ℕ → Bool
+is_control_prefix [] = false
+is_control_prefix (b ∷ bytes) = nat_lt b 32 || (b == 127 || (b == 194 && is_in_range 128 159 (slice_index bytes 0)))
 
 -- The component is empty, `.` or `..`.
 abbrev pub is_improper : List ℕ → Bool
@@ -24,7 +24,7 @@ component_from bytes at = before_first (λ b. b == slash) (drop at bytes)
 
 -- A control character begins at this index, within the text.
 abbrev pub has_control : List ℕ → ℕ → Bool
-has_control bytes at = is_control_front (drop at bytes) && nat_lt at (utf8_valid_len bytes)
+has_control bytes at = is_control_prefix (drop at bytes) && nat_lt at (utf8_valid_len bytes)
 
 -- A component that no name has stands at this index, behind text.
 abbrev pub has_improper : List ℕ → ℕ → Bool
@@ -43,13 +43,13 @@ unfoldable pub is_wrong_at : List ℕ → ℕ → Bool
 is_wrong_at bytes at = has_improper bytes at || (has_control bytes at || (ends_text bytes at || ends_size bytes at))
 
 -- The first of so many indexes, from this one on, at which the test passes.
-abbrev pub first_from : (ℕ → Bool) → ℕ → ℕ → Option ℕ
-first_from test at zero = None
-first_from test at (suc more) = if test at then Some at else first_from test (at + 1) more
+abbrev pub least_from : (ℕ → Bool) → ℕ → ℕ → Option ℕ
+least_from test at zero = None
+least_from test at (suc more) = if test at then Some at else least_from test (at + 1) more
 
 -- The least index at which something keeps the bytes from being a name; none where they are one.
 unfoldable pub name_fault : List ℕ → Option ℕ
-name_fault bytes = first_from (is_wrong_at bytes) 0 (length bytes + 1)
+name_fault bytes = least_from (is_wrong_at bytes) 0 (length bytes + 1)
 
 -- The first name lies below the other: it goes on behind it with a slash.
 abbrev pub is_below : List ℕ → List ℕ → Bool

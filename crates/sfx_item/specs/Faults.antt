@@ -1,7 +1,7 @@
 use Rattle.std.specs.Prelude.{◌≡◌, ℕ, ◌<◌, ◌≤◌, ◌⊎◌, List, length, take, slice_index, IsUtf8}
 use Rattle.sfx_item.specs.Name.{IsControl, IsImproper, HasComponent, HasCharacter}
 
--- The longest front of the bytes that is UTF-8 has this length.
+-- The longest prefix of the bytes that is UTF-8 has this length.
 pub record IsTextUpTo (bytes : List ℕ) (n : ℕ) : Type 0 where
   pub within : n ≤ length bytes
   pub text : IsUtf8 (take n bytes)

@@ -4,7 +4,7 @@ use Rattle.sfx_ids.specs.declared.item_id.ItemId.{ItemId}
 use Rattle.sfx_ids.specs.declared.version.Version.{Version}
 use Rattle.sfx_item.specs.declared.cell.Cell.{Cell}
 use Rattle.sfx_item.specs.declared.state.State.{State}
-use Rattle.sfx_item.specs.declared.state.State.TheVariants.{Live as LiveRow, Dead as Tombstone}
+use Rattle.sfx_item.specs.declared.state.State.TheVariants as states
 
 -- What a replica holds of a present item: a cell for each unit of a live one, and the version of the
 -- deletion for a dead one, a tombstone.
@@ -13,7 +13,7 @@ pub data ItemState : Type 0 where
   Dead : (version : Version) → ItemState
 
 -- A present item of a replica.
-pub record MemberItem : Type 0 where
+pub record ItemData : Type 0 where
   pub id : ItemId
   pub state : ItemState
 
@@ -22,7 +22,7 @@ abbrev pub version_at : ItemState → ℕ → Option Version
 version_at (Live cells) unit = option_map (λ c. c.version) (slice_get cells unit)
 version_at (Dead version) unit = Some version
 
--- The state of the program as plain data.
+-- The state of an item as plain data.
 abbrev pub state_view : {U : ℕ} → State U → ItemState
-state_view (LiveRow cells) = Live cells
-state_view (Tombstone version) = Dead version
+state_view (states.Live cells) = Live cells
+state_view (states.Dead version) = Dead version

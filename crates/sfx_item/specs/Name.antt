@@ -17,7 +17,7 @@ IsImproper component = (component ≡ []) ⊎ ((component ≡ codes ".") ⊎ (co
 
 -- A component begins behind these bytes: they are none, or end with a slash.
 abbrev pub EndsWithSlash : List ℕ → Type 0
-EndsWithSlash before = (before ≡ []) ⊎ ((front : List ℕ) × (before ≡ front ++ slash ∷ []))
+EndsWithSlash before = (before ≡ []) ⊎ ((prefix : List ℕ) × (before ≡ prefix ++ slash ∷ []))
 
 -- A component ends before these bytes: they are none, or begin with a slash.
 abbrev pub BeginsWithSlash : List ℕ → Type 0
@@ -52,7 +52,7 @@ pub record IsName (bytes : List ℕ) : Type 0 where
   pub characters : (at c : ℕ) → HasCharacter bytes at c → ¬ IsControl c
 
 -- What keeps bytes from being a name, by the index at which it is: where the improper component or the
--- control character begins, behind the longest front that is UTF-8, and behind the first 255 bytes.
+-- control character begins, behind the longest prefix that is UTF-8, and behind the first 255 bytes.
 pub data IsWrongAt (bytes : List ℕ) (at : ℕ) : Type 0 where
   improper : (component : List ℕ) → HasComponent bytes at component → IsImproper component → IsWrongAt bytes at
   control : (c : ℕ) → HasCharacter bytes at c → IsControl c → IsWrongAt bytes at
@@ -60,12 +60,12 @@ pub data IsWrongAt (bytes : List ℕ) (at : ℕ) : Type 0 where
   too_long : 255 < length bytes → at ≡ 255 → IsWrongAt bytes at
 
 -- The least of the places at which something is wrong.
-pub record IsFirstWrong (bytes : List ℕ) (at : ℕ) : Type 0 where
+pub record IsFirstWrongInName (bytes : List ℕ) (at : ℕ) : Type 0 where
   pub wrong : IsWrongAt bytes at
   pub least : (n : ℕ) → IsWrongAt bytes n → at ≤ n
 
 -- The fault says what became of the reading: where the bytes go wrong, or that they are a name for
 -- which there was no memory.
-abbrev pub IsFaultOf : List ℕ → NameFault → Type 0
-IsFaultOf bytes (BadName at) = IsFirstWrong bytes at
-IsFaultOf bytes Memory = IsName bytes
+abbrev pub IsNameFault : List ℕ → NameFault → Type 0
+IsNameFault bytes (BadName at) = IsFirstWrongInName bytes at
+IsNameFault bytes Memory = IsName bytes

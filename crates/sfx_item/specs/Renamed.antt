@@ -32,16 +32,16 @@ without_mark (b ∷ bs) = if is_mark (b ∷ bs) then [] else b ∷ without_mark 
 abbrev pub mark_of : ℕ → List ℕ
 mark_of n = tilde ∷ decimal n
 
--- The longest front of the text that ends between characters and has at most so many bytes.
-abbrev pub text_front : ℕ → List ℕ → List ℕ
-text_front size text = take (floor_char_boundary text (min size (length text))) text
+-- The longest prefix of the text that ends between characters and has at most so many bytes.
+abbrev pub text_prefix : ℕ → List ℕ → List ℕ
+text_prefix size text = take (floor_char_boundary text (min size (length text))) text
 
 -- The first part of a name, the mark and the rest in at most 255 bytes: the first part is cut where it is
 -- too long, and where mark and rest are too long, the mark is all.
 abbrev pub within_size : List ℕ → List ℕ → List ℕ → List ℕ
 within_size first mark rest =
     if nat_le (length mark + length rest) 255 then
-    text_front (255 - (length mark + length rest)) first ++ (mark ++ rest)
+    text_prefix (255 - (length mark + length rest)) first ++ (mark ++ rest)
     else mark
 
 -- The name with the mark of this number at the end of its first component, in place of one that is there.

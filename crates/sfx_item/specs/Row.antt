@@ -13,7 +13,7 @@ pub record HasName (cells : List Cell) : Type 0 where
   pub first : first_value cells ≡ Some name
 
 -- The cells are those of a row: one for each of the `units`, and that of unit 0 holds a name.
-pub record IsRow (units : ℕ) (cells : List Cell) : Type 0 where
+pub record IsCellRow (units : ℕ) (cells : List Cell) : Type 0 where
   pub whole : length cells ≡ units
   pub named : HasName cells
 

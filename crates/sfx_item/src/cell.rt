@@ -19,7 +19,7 @@ impl Cell {
         self.version == other.version && self.value.same(&other.value)
     }
 
-    /// An equal cell. The one error is want of memory.
+    /// An equal cell. The one error is running out of memory.
     pub fn copy(&self, alloc: Global) -> Result<Self, Memory>
         ensures { IfOk result (λ copy. copy ≡ self.now) }
     {

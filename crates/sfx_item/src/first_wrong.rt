@@ -1,14 +1,14 @@
 ghost use Rattle.std.specs.Prelude.{◌≡◌, ◌≢◌, ℕ, ◌<◌, ◌≤◌, ◌-◌, ◌⊎◌, ◌↔◌, length, slice_index, IsTrue, IfSome, IfNone};
 ghost use Rattle.sfx_item.specs.Decided.{name_fault};
 ghost use Rattle.sfx_item.specs.Faults.{HasControlBytes, IsControlAt, IsImproperAt, IsTextUpTo};
-ghost use Rattle.sfx_item.specs.Name.{IsFirstWrong, IsImproper, IsName, IsWrongAt, slash};
+ghost use Rattle.sfx_item.specs.Name.{IsFirstWrongInName, IsImproper, IsName, IsWrongAt, slash};
 
 /// The greatest length of a name in bytes.
 pub const MAX_NAME_LEN: usize = 255;
 
 /// The least index at which something keeps the bytes from being a name, or `None` where they are one.
 pub fn first_wrong(bytes: &[u8]) -> Option<usize>
-    ensures wrong { IfSome result (λ at. IsFirstWrong bytes.now at) }
+    ensures wrong { IfSome result (λ at. IsFirstWrongInName bytes.now at) }
     ensures name { IfNone result (IsName bytes.now) }
     ensures decided { result ≡ name_fault bytes.now }
 {
@@ -21,7 +21,7 @@ pub fn first_wrong(bytes: &[u8]) -> Option<usize>
     None
 }
 
-/// The length of the longest front that is UTF-8.
+/// The length of the longest prefix that is UTF-8.
 fn text_len(bytes: &[u8]) -> usize
     ensures { IsTextUpTo bytes.now result }
 {

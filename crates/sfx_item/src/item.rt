@@ -13,9 +13,9 @@ pub struct Item<const U: usize> {
 }
 
 impl<const U: usize> Model for Item<U> {
-    ghost use Rattle.sfx_item.specs.Item.{MemberItem, state_view};
+    ghost use Rattle.sfx_item.specs.Item.{ItemData, state_view};
 
-    ghost Value = { MemberItem };
+    ghost Value = { ItemData };
 
     ghost view = { λ i. record { id = i.id; state = state_view i.state } };
 }

@@ -1,7 +1,7 @@
 ghost use Rattle.std.specs.Prelude.{◌≡◌, ◌↔◌, ℕ, ◌++◌, List, [], ◌∷◌, Some, None, true, false, codes, replicate, IsTrue};
 ghost use Rattle.sfx_item.specs.Clash.{Clash};
 ghost use Rattle.sfx_item.specs.Decided.{is_clash, is_wrong_at, name_fault};
-ghost use Rattle.sfx_item.specs.Name.{IsFirstWrong, IsName, IsWrongAt};
+ghost use Rattle.sfx_item.specs.Name.{IsFirstWrongInName, IsName, IsWrongAt};
 ghost use Rattle.sfx_item.specs.Renamed.{renamed};
 
 /// Nothing is wrong with a name, at any index.
@@ -13,7 +13,7 @@ pub fn nothing_is_wrong_with_names()
 /// least such index, which a name has none of, and whether two names clash, in either order.
 pub fn names_are_decided()
     ensures wrong { (bytes : List ℕ) (at : ℕ) → IsTrue (is_wrong_at bytes at) ↔ IsWrongAt bytes at }
-    ensures fault { (bytes : List ℕ) (at : ℕ) → (name_fault bytes ≡ Some at) ↔ IsFirstWrong bytes at }
+    ensures fault { (bytes : List ℕ) (at : ℕ) → (name_fault bytes ≡ Some at) ↔ IsFirstWrongInName bytes at }
     ensures name { (bytes : List ℕ) → (name_fault bytes ≡ None) ↔ IsName bytes }
     ensures clash { (a b : List ℕ) → IsTrue (is_clash a b) ↔ Clash a b }
     ensures symmetric { (a b : List ℕ) → is_clash a b ≡ is_clash b a }

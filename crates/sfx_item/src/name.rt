@@ -1,7 +1,7 @@
 ghost use Rattle.std.specs.Prelude.{◌≡◌, ◌↔◌, ℕ, Some, Err, IfOk, IfErr};
 ghost use Rattle.sfx_item.specs.Decided.{name_fault};
 ghost use Rattle.sfx_item.specs.declared.name_fault.NameFault.TheVariants.{BadName};
-ghost use Rattle.sfx_item.specs.Name.{IsFaultOf, IsName};
+ghost use Rattle.sfx_item.specs.Name.{IsNameFault, IsName};
 
 use crate::NameFault;
 use crate::first_wrong::first_wrong;
@@ -30,10 +30,10 @@ impl Model for Name {
 impl Name {
     /// The name of these bytes. `BadName` where they are none, with the least index at which something
     /// is wrong: where a component that is empty, `.` or `..` or a control character begins, where the
-    /// longest front that is UTF-8 ends, or behind the first 255 bytes.
+    /// longest prefix that is UTF-8 ends, or behind the first 255 bytes.
     pub fn read(alloc: Global, bytes: &[u8]) -> Result<Name, NameFault>
         ensures ok { IfOk result (λ name. IsName bytes.now × (name ≡ bytes.now)) }
-        ensures err { IfErr result (λ fault. IsFaultOf bytes.now fault) }
+        ensures err { IfErr result (λ fault. IsNameFault bytes.now fault) }
         ensures decided { (at : ℕ) → (result ≡ Err (BadName at)) ↔ (name_fault bytes.now ≡ Some at) }
     {
         match first_wrong(bytes) {
@@ -52,7 +52,7 @@ impl Name {
         self.bytes.as_slice()
     }
 
-    /// An equal name. The one error is want of memory.
+    /// An equal name. The one error is running out of memory.
     pub fn copy(&self, alloc: Global) -> Result<Self, Memory>
         ensures { IfOk result (λ copy. copy ≡ self.now) }
     {

@@ -1,6 +1,6 @@
 ghost use Rattle.std.specs.Prelude.{◌≡◌, ℕ, ◌<◌, ◌↔◌, if◌then◌else◌, List, Some, length, slice_get, slice_set, IsSome, IsTrue, IfSome, IfOk, OnErr};
 ghost use Rattle.sfx_item.specs.Name.{IsName};
-ghost use Rattle.sfx_item.specs.Row.{IsRow, first_value};
+ghost use Rattle.sfx_item.specs.Row.{IsCellRow, first_value};
 
 use crate::{Cell, Name, NameFault};
 use sfx_ids::{Memory, UnitId};
@@ -33,7 +33,7 @@ impl<const U: usize> Row<U> {
     /// # Errors
     /// `Memory`, as the row keeps the name by itself.
     pub fn new(alloc: Global, cells: Vec<Cell>) -> Result<Option<Self>, Memory>
-        ensures valid { IfOk result (λ row. IsSome row ↔ IsRow U cells.items) }
+        ensures valid { IfOk result (λ row. IsSome row ↔ IsCellRow U cells.items) }
         ensures value { IfOk result (λ row. IfSome row (λ row. row ≡ cells.items)) }
     {
         if cells.len() != U {
@@ -59,7 +59,7 @@ impl<const U: usize> Row<U> {
     /// The cell of a unit.
     pub fn cell(&self, unit: UnitId<U>) -> &Cell
         ensures value { slice_get self.now unit.entry ≡ Some result.now }
-        ensures row { IsRow U self.now }
+        ensures row { IsCellRow U self.now }
     {
         &self.cells[unit.get()]
     }
@@ -67,7 +67,7 @@ impl<const U: usize> Row<U> {
     /// The cells of all units, in order.
     pub fn cells(&self) -> &[Cell]
         ensures value { result.now ≡ self.now }
-        ensures row { IsRow U self.now }
+        ensures row { IsCellRow U self.now }
     {
         self.cells.as_slice()
     }

@@ -36,7 +36,7 @@ impl Value {
         self.bytes() == other.bytes()
     }
 
-    /// An equal value. The one error is want of memory.
+    /// An equal value. The one error is running out of memory.
     pub fn copy(&self, alloc: Global) -> Result<Self, Memory>
         ensures { IfOk result (λ copy. copy ≡ self.now) }
     {

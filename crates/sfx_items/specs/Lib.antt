@@ -1,3 +1,3 @@
-pub mod Merging
+pub mod Merge
 pub mod Neighbours
 pub mod Places

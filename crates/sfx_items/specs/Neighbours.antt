@@ -4,9 +4,9 @@ use Rattle.std.specs.Option.{option_or}
 use Rattle.sfx_ids.specs.declared.cut.Cut.{Cut}
 use Rattle.sfx_ids.specs.declared.cut.Cut.TheVariants.{At}
 use Rattle.sfx_ids.specs.Cut.{cut_lt}
-use Rattle.sfx_item.specs.Item.{MemberItem}
+use Rattle.sfx_item.specs.Item.{ItemData}
 
 -- The last item whose place is before this one.
-abbrev pub last_before : Cut → List MemberItem → Option MemberItem
+abbrev pub last_before : Cut → List ItemData → Option ItemData
 last_before place [] = None
 last_before place (x ∷ xs) = option_or (last_before place xs) (if cut_lt (At x.id) place then Some x else None)

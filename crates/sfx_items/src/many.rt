@@ -2,10 +2,10 @@
 ghost use Rattle.std.specs.Prelude.{◌≡◌, ◌≤◌, ◌<◌, ◌+◌, ◌++◌, IsSome, OnOk, OnErr, vec_len, vec_capacity, not};
 ghost use Rattle.std.specs.List.{list_any};
 ghost use Rattle.std.specs.VecDeque.{deque_len};
-ghost use Rattle.sfx_model.specs.Events.{same_item};
-ghost use Rattle.sfx_model.specs.Members.{AreIdsRising, AreRising};
-ghost use Rattle.sfx_model.specs.Putting.{drop_all, put_all};
-ghost use Rattle.sfx_items.specs.Merging.{IsNext};
+ghost use Rattle.sfx_model.specs.world.Events.{same_item};
+ghost use Rattle.sfx_model.specs.members.Members.{AreIdsAscending, AreAscending};
+ghost use Rattle.sfx_model.specs.members.ItemLists.{drop_all, put_all};
+ghost use Rattle.sfx_items.specs.Merge.{IsNextOfTwo};
 
 use sfx_ids::{ItemId, Memory};
 use sfx_item::Item;
@@ -19,8 +19,8 @@ use std::mem;
 /// # Errors
 /// `Memory`. Nothing has changed then.
 pub fn put_all<const U: usize>(items: &mut Vec<Item<U>>, puts: Vec<Item<U>>) -> Result<(), Memory>
-    requires rising { AreRising items.old.items }
-    requires puts { AreRising puts.items }
+    requires ascending { AreAscending items.old.items }
+    requires puts { AreAscending puts.items }
     ensures ok { let all = put_all puts.entry.items items.old.items in
         OnOk result (items.new.items ≡ all) }
     ensures err { OnErr result (items.new.items ≡ items.old.items) }
@@ -38,8 +38,8 @@ fn merge<const U: usize>(
     mut puts: VecDeque<Item<U>>,
 )
     requires room { vec_len merged.old + (deque_len held + deque_len puts) ≤ vec_capacity merged.old }
-    requires held { AreRising held.items }
-    requires puts { AreRising puts.items }
+    requires held { AreAscending held.items }
+    requires puts { AreAscending puts.items }
     ensures { let all = put_all puts.entry.items held.entry.items in
         merged.new.items ≡ merged.old.items ++ all }
 {
@@ -53,12 +53,12 @@ fn next<const U: usize>(
     held: &mut VecDeque<Item<U>>,
     puts: &mut VecDeque<Item<U>>,
 ) -> Option<Item<U>>
-    requires held { AreRising held.old.items }
-    requires puts { AreRising puts.old.items }
+    requires held { AreAscending held.old.items }
+    requires puts { AreAscending puts.old.items }
     ensures next { let whole = put_all puts.old.items held.old.items in
-        IsNext result whole (put_all puts.new.items held.new.items) }
-    ensures held { AreRising held.new.items }
-    ensures puts { AreRising puts.new.items }
+        IsNextOfTwo result whole (put_all puts.new.items held.new.items) }
+    ensures held { AreAscending held.new.items }
+    ensures puts { AreAscending puts.new.items }
     ensures fewer { IsSome result →
         deque_len held.new + deque_len puts.new < deque_len held.old + deque_len puts.old }
 {
@@ -75,13 +75,13 @@ fn next<const U: usize>(
 
 /// Takes the items with these ids, which ascend, away in one pass over the items.
 pub fn drop_all<const U: usize>(items: &mut Vec<Item<U>>, drops: &[ItemId])
-    requires rising { AreRising items.old.items }
-    requires drops { AreIdsRising drops.now }
+    requires ascending { AreAscending items.old.items }
+    requires drops { AreIdsAscending drops.now }
     ensures { items.new.items ≡ drop_all drops.now items.old.items }
 {
     items.retain(
         |item| -> bool
-            ensures { AreIdsRising drops.entry.now →
+            ensures { AreIdsAscending drops.entry.now →
                 result ≡ not (list_any (same_item item.now.id) drops.entry.now) }
         { !is_among(drops, &item.id) },
     );
@@ -89,7 +89,7 @@ pub fn drop_all<const U: usize>(items: &mut Vec<Item<U>>, drops: &[ItemId])
 
 /// Whether the id is one of these, which ascend.
 fn is_among(ids: &[ItemId], id: &ItemId) -> bool
-    ensures { AreIdsRising ids.now → result ≡ list_any (same_item id.now) ids.now }
+    ensures { AreIdsAscending ids.now → result ≡ list_any (same_item id.now) ids.now }
 {
     ids.binary_search(id).is_ok()
 }

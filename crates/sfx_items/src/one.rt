@@ -1,8 +1,8 @@
 //! One item that is put into a list in order of its ids, or taken away.
 ghost use Rattle.std.specs.Prelude.{◌≡◌, OnOk, OnErr, IfSome};
 ghost use Rattle.std.specs.Option.{option_map};
-ghost use Rattle.sfx_model.specs.Members.{AreRising, state_of};
-ghost use Rattle.sfx_model.specs.Putting.{drop_item, put_item};
+ghost use Rattle.sfx_model.specs.members.Members.{AreAscending, state_of};
+ghost use Rattle.sfx_model.specs.members.ItemLists.{drop_item, put_item};
 
 use crate::finding::place_of;
 use crate::search::search;
@@ -14,7 +14,7 @@ use sfx_item::Item;
 /// # Errors
 /// `Memory`. Nothing has changed then.
 pub fn put<const U: usize>(items: &mut Vec<Item<U>>, item: Item<U>) -> Result<(), Memory>
-    requires rising { AreRising items.old.items }
+    requires ascending { AreAscending items.old.items }
     ensures ok { let all = put_item item.entry items.old.items in
         OnOk result (items.new.items ≡ all) }
     ensures err { OnErr result (items.new.items ≡ items.old.items) }
@@ -30,7 +30,7 @@ pub fn put<const U: usize>(items: &mut Vec<Item<U>>, item: Item<U>) -> Result<()
 
 /// Takes the item with this id away, and answers it, or `None` where there is none.
 pub fn take_away<const U: usize>(items: &mut Vec<Item<U>>, id: &ItemId) -> Option<Item<U>>
-    requires rising { AreRising items.old.items }
+    requires ascending { AreAscending items.old.items }
     ensures items { items.new.items ≡ drop_item id.now items.old.items }
     ensures state { option_map (λ x. x.state) result ≡ state_of items.old.items id.now }
     ensures same { IfSome result (λ x. x.id ≡ id.now) }

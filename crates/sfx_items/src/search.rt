@@ -4,7 +4,7 @@ ghost use Rattle.std.specs.List.{position_from};
 ghost use Rattle.sfx_ids.specs.Cut.{cut_cmp};
 ghost use Rattle.sfx_ids.specs.declared.cut.Cut.TheVariants.{At};
 ghost use Rattle.sfx_ids.specs.declared.item_id.ItemId.{ItemId};
-ghost use Rattle.sfx_model.specs.Members.{AreRising};
+ghost use Rattle.sfx_model.specs.members.Members.{AreAscending};
 ghost use Rattle.sfx_items.specs.Places.{AreFew, count_before, has_id};
 
 use sfx_ids::Cut;
@@ -25,7 +25,7 @@ pub(crate) struct Found {
 /// Searches items in order of their ids for a cut, by halves: among N items it is compared with at most
 /// log2(N) + 1 of them.
 pub(crate) fn search<const U: usize>(items: &[Item<U>], cut: &Cut) -> Found
-    requires rising { AreRising items.now }
+    requires ascending { AreAscending items.now }
     ensures place { result.place ≡ count_before cut.now items.now }
     ensures exact { (i : ItemId) → cut.now ≡ Cut.At i →
         position_from (has_id i) 0 items.now ≡ (if result.exact then Some result.place else None) }

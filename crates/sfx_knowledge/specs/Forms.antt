@@ -8,7 +8,7 @@ use Rattle.sfx_ids.specs.declared.cut.Cut.TheVariants.{Start}
 use Rattle.sfx_ids.specs.Cut.{cut_lt, cut_le}
 use Rattle.sfx_vector.specs.Clocks.{Clocks}
 use Rattle.sfx_segments.specs.Segments.{IsPlace}
-use Rattle.sfx_knowledge.specs.Row.{UnitClocks}
+use Rattle.sfx_knowledge.specs.Row.{UnitRowData}
 use Rattle.sfx_knowledge.specs.Knowledge.{Known, Ticks, tick_at, laid_over}
 
 -- The vector with this tick for the replica, where the tick is not 0, in its place by replica.
@@ -38,7 +38,7 @@ exceptions_of base vector unit (suc count) =
     else (unit, vector unit) ∷ exceptions_of base vector (unit + 1) count
 
 -- The row with these vectors, one for each unit.
-abbrev pub row_of : ℕ → (ℕ → Clocks) → UnitClocks
+abbrev pub row_of : ℕ → (ℕ → Clocks) → UnitRowData
 row_of units vector = record {
   base = vector 0;
   others = exceptions_of (vector 0) vector 1 (units - 1);
@@ -52,7 +52,7 @@ same_exceptions (o ∷ os) [] = false
 same_exceptions (o ∷ os) (p ∷ ps) = nat_eq o.0 p.0 && same_clocks o.1 p.1 && same_exceptions os ps
 
 -- Whether both rows are the same.
-abbrev pub same_row : UnitClocks → UnitClocks → Bool
+abbrev pub same_row : UnitRowData → UnitRowData → Bool
 same_row a b = same_clocks a.base b.base && same_exceptions a.others b.others
 
 -- The cuts with one more, ascending and each once.
@@ -67,13 +67,13 @@ in_order [] = []
 in_order (c ∷ cs) = with_cut c (in_order cs)
 
 -- The segments that follow one with this row: one at each of the cuts where the row changes.
-abbrev pub changes_at : (Cut → UnitClocks) → UnitClocks → List Cut → Known
+abbrev pub changes_at : (Cut → UnitRowData) → UnitRowData → List Cut → Known
 changes_at row before [] = []
 changes_at row before (c ∷ cs) =
     if same_row (row c) before then changes_at row before cs else (c, row c) ∷ changes_at row (row c) cs
 
 -- The segments with these rows, which change at these cuts alone.
-abbrev pub segments_of : List Cut → (Cut → UnitClocks) → Known
+abbrev pub segments_of : List Cut → (Cut → UnitRowData) → Known
 segments_of cuts row = (Start, row Start) ∷ changes_at row (row Start) (in_order cuts)
 
 -- The knowledge with these ticks, which change at the listed cuts alone, and which are 0 but for the
@@ -91,7 +91,7 @@ abbrev pub listed_in : Clocks → List ℕ
 listed_in clocks = map (λ c. c.0) clocks
 
 -- The replicas that a row lists.
-abbrev pub listed_in_row : UnitClocks → List ℕ
+abbrev pub listed_in_row : UnitRowData → List ℕ
 listed_in_row row = listed_in row.base ++ flat_map (λ o. listed_in o.1) row.others
 
 -- The replicas that the knowledge lists.

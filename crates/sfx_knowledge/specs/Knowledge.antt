@@ -6,16 +6,16 @@ use Rattle.sfx_ids.specs.declared.version.Version.{Version}
 use Rattle.sfx_ids.specs.Cut.{is_between}
 use Rattle.sfx_vector.specs.Clocks.{Clocks, tick_of}
 use Rattle.sfx_segments.specs.Segments.{IsPlace, segment_at, AreSegments}
-use Rattle.sfx_knowledge.specs.Row.{UnitClocks, row_at, IsRow}
+use Rattle.sfx_knowledge.specs.Row.{UnitRowData, row_at, IsClockRow}
 use Rattle.sfx_knowledge.specs.Skips.{is_skipped_at}
 
 -- What a replica knows, as plain data: segments of the places, each with the place where it begins and
 -- a clock vector for each unit.
 abbrev pub Known : Type 0
-Known = List (Cut × UnitClocks)
+Known = List (Cut × UnitRowData)
 
 -- The row of a replica that knows nothing.
-abbrev pub no_row : UnitClocks
+abbrev pub no_row : UnitRowData
 no_row = record { base = []; others = [] }
 
 -- Nothing is known at any place.
@@ -37,7 +37,7 @@ KnowsVersion known i u v = v.tick ≤ tick_at known (At i) u v.replica
 -- Each segment's row is in its one form.
 abbrev pub AreRows : ℕ → Known → Type 0
 AreRows units [] = Unit {0}
-AreRows units (p ∷ ps) = IsRow units p.1 × AreRows units ps
+AreRows units (p ∷ ps) = IsClockRow units p.1 × AreRows units ps
 
 -- The list is knowledge in its one form, of items with this many units.
 pub record IsKnowledge (units : ℕ) (known : Known) : Type 0 where
@@ -71,8 +71,8 @@ abbrev pub projected : Cut → Cut → Ticks → Ticks
 projected lo hi a place u r = if is_between lo hi place then a place u r else 0
 
 -- The ticks joined with the others at the places of the range, but for the units that are skipped there.
-abbrev pub learned : Cut → Cut → List (ItemId × ℕ) → Ticks → Ticks → Ticks
-learned lo hi skipped here there place u r =
+abbrev pub learned_ticks : Cut → Cut → List (ItemId × ℕ) → Ticks → Ticks → Ticks
+learned_ticks lo hi skipped here there place u r =
     if is_between lo hi place && not (is_skipped_at skipped place u) then max (here place u r) (there place u r)
     else here place u r
 

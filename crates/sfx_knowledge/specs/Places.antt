@@ -4,16 +4,16 @@ use Rattle.sfx_ids.specs.declared.cut.Cut.{Cut}
 use Rattle.sfx_ids.specs.declared.cut.Cut.TheVariants.{At}
 use Rattle.sfx_ids.specs.declared.item_id.ItemId.{ItemId}
 use Rattle.sfx_segments.specs.Segments.{IsPlace, segment_at}
-use Rattle.sfx_knowledge.specs.Row.{UnitClocks, RowWithin}
+use Rattle.sfx_knowledge.specs.Row.{UnitRowData, RowWithin}
 use Rattle.sfx_knowledge.specs.Knowledge.{Known, no_row, clocks_at, tick_at}
 
 -- The fact holds of the row at every place.
-abbrev pub EveryRow : Known → (UnitClocks → Type 0) → Type 0
+abbrev pub EveryRow : Known → (UnitRowData → Type 0) → Type 0
 EveryRow known P = (place : Cut) → IsPlace place → P (segment_at no_row known place)
 
 -- The fact holds of each cut where a segment begins.
 abbrev pub AtEachStart : Known → (Cut → Type 0) → Type 0
-AtEachStart known P = (k : ℕ) (p : Cut × UnitClocks) → slice_get known k ≡ Some p → P p.0
+AtEachStart known P = (k : ℕ) (p : Cut × UnitRowData) → slice_get known k ≡ Some p → P p.0
 
 -- At the place the first knowledge's row is within the second's.
 abbrev pub WithinAt : ℕ → Known → Known → Cut → Type 0

@@ -3,7 +3,7 @@ use Rattle.sfx_vector.specs.Clocks.{Clocks, AreClocks, tick_of}
 
 -- One clock vector for each unit: `base` at every unit but those of `others`, which are listed with
 -- their own.
-pub record UnitClocks : Type 0 where
+pub record UnitRowData : Type 0 where
   pub base : Clocks
   pub others : List (ℕ × Clocks)
 
@@ -13,7 +13,7 @@ listed_or base [] u = base
 listed_or base (o ∷ os) u = if nat_eq o.0 u then o.1 else listed_or base os u
 
 -- The vector of the row at the unit.
-abbrev pub row_at : UnitClocks → ℕ → Clocks
+abbrev pub row_at : UnitRowData → ℕ → Clocks
 row_at row u = listed_or row.base row.others u
 
 -- The units of the list ascend, none below the given one and each of them below `units`; each has a clock
@@ -25,25 +25,25 @@ AreExceptions units base low (o ∷ os) =
 
 -- The row is in its one form, for this many units: only units above 0 are listed, and only where their
 -- vector differs from that of unit 0.
-pub record IsRow (units : ℕ) (row : UnitClocks) : Type 0 where
+pub record IsClockRow (units : ℕ) (row : UnitRowData) : Type 0 where
   pub base : AreClocks row.base
   pub others : AreExceptions units row.base 1 row.others
 
 -- The new row has this vector at the unit, and at each other unit the old one's.
-pub record ChangesUnit (units : ℕ) (old new : UnitClocks) (unit : ℕ) (vector : Clocks) : Type 0 where
+pub record ChangesUnit (units : ℕ) (old new : UnitRowData) (unit : ℕ) (vector : Clocks) : Type 0 where
   pub changed : row_at new unit ≡ vector
   pub others : (u : ℕ) → u < units → u ≢ unit → row_at new u ≡ row_at old u
 
 -- At every unit the first row's vector is within the second's.
-abbrev pub RowWithin : ℕ → UnitClocks → UnitClocks → Type 0
+abbrev pub RowWithin : ℕ → UnitRowData → UnitRowData → Type 0
 RowWithin units a b = (u r : ℕ) → u < units → tick_of (row_at a u) r ≤ tick_of (row_at b u) r
 
 -- The vector is within the row's at every unit.
-abbrev pub VectorWithin : ℕ → Clocks → UnitClocks → Type 0
+abbrev pub VectorWithin : ℕ → Clocks → UnitRowData → Type 0
 VectorWithin units clocks row = (u r : ℕ) → u < units → tick_of clocks r ≤ tick_of (row_at row u) r
 
 -- The number is the greatest of the given one and the replica's ticks at the units.
-pub record MostOfRow (units : ℕ) (row : UnitClocks) (r given most : ℕ) : Type 0 where
+pub record MostOfRow (units : ℕ) (row : UnitRowData) (r given most : ℕ) : Type 0 where
   pub bound : (u : ℕ) → u < units → tick_of (row_at row u) r ≤ most
   pub low : given ≤ most
   pub met : (most ≡ given) ⊎ ((u : ℕ) × (u < units) × (tick_of (row_at row u) r ≡ most))

@@ -37,7 +37,7 @@ impl Forgotten {
         }
     }
 
-    /// Forgets the version of a deletion. The one error is want of memory, and then all stays as it was.
+    /// Forgets the version of a deletion. The one error is running out of memory, and then all stays as it was.
     pub fn forget(&mut self, v: &Version) -> Result<(), Memory>
         ensures ok { OnOk result (Forgot self.old self.new v.now) }
         ensures err { OnErr result (self.new ≡ self.old) }
@@ -49,7 +49,7 @@ impl Forgotten {
         Ok(())
     }
 
-    /// Forgets what the other has forgotten. The one error is want of memory, and then all stays as it was.
+    /// Forgets what the other has forgotten. The one error is running out of memory, and then all stays as it was.
     pub fn join(&mut self, other: &Forgotten) -> Result<(), Memory>
         ensures ok { OnOk result (ForgotBoth self.old other.now self.new) }
         ensures err { OnErr result (self.new ≡ self.old) }
@@ -88,7 +88,7 @@ impl Forgotten {
         k.segments().get(&Cut::At(*id)).contain(&self.vector)
     }
 
-    /// Equal forgotten deletions of their own memory. The one error is want of memory.
+    /// Equal forgotten deletions of their own memory. The one error is running out of memory.
     pub fn copy(&self, alloc: Global) -> Result<Forgotten, Memory>
         ensures { IfOk result (λ copied. copied ≡ self.now) }
     {

@@ -2,7 +2,7 @@ ghost use Rattle.std.specs.Prelude.{◌≡◌, ◌↔◌, ◌≤◌, ◌<◌, le
 ghost use Rattle.sfx_ids.specs.Tick.{max_tick};
 ghost use Rattle.sfx_ids.specs.declared.cut.Cut.TheVariants.{At, After};
 ghost use Rattle.sfx_segments.specs.Segments.{SetsRange};
-ghost use Rattle.sfx_knowledge.specs.Knowledge.{IsKnowledge, no_row, nothing_known, clocks_at, tick_at, KnowsVersion, HasTicks, KnowAlike, IsWithin, joined, projected, learned, laid_over, IsMost};
+ghost use Rattle.sfx_knowledge.specs.Knowledge.{IsKnowledge, no_row, nothing_known, clocks_at, tick_at, KnowsVersion, HasTicks, KnowAlike, IsWithin, joined, projected, learned_ticks, laid_over, IsMost};
 ghost use Rattle.sfx_knowledge.specs.Places.{EveryRow, AtEachStart, WithinAt, Restores};
 ghost use Rattle.sfx_knowledge.specs.Row.{VectorWithin};
 ghost use Rattle.sfx_knowledge.specs.Forms.{with_own};
@@ -35,7 +35,7 @@ impl<const U: usize> Model for Knowledge<U> {
 }
 
 impl<const U: usize> Knowledge<U> {
-    /// Nothing known at any place. The one error is want of memory.
+    /// Nothing known at any place. The one error is running out of memory.
     pub fn none(alloc: Global) -> Result<Knowledge<U>, Memory>
         ensures value { IfOk result (λ k. k ≡ nothing_known) }
         ensures form { IfOk result (IsKnowledge U) }
@@ -78,7 +78,7 @@ impl<const U: usize> Knowledge<U> {
         self.same_segments(other)
     }
 
-    /// Both joined at every place and unit. The one error is want of memory.
+    /// Both joined at every place and unit. The one error is running out of memory.
     pub fn union(&self, alloc: Global, other: &Knowledge<U>) -> Result<Knowledge<U>, Memory>
         ensures ticks { IfOk result (λ k. HasTicks U k (joined (tick_at self.now) (tick_at other.now))) }
         ensures form { IfOk result (IsKnowledge U) }
@@ -88,7 +88,7 @@ impl<const U: usize> Knowledge<U> {
     }
 
     /// What is known at the places from `lo` up to but not `hi`, and nothing at all others. The one error
-    /// is want of memory.
+    /// is running out of memory.
     pub fn project_range(&self, alloc: Global, lo: &Cut, hi: &Cut) -> Result<Knowledge<U>, Memory>
         ensures ticks { IfOk result (λ k. HasTicks U k (projected lo.now hi.now (tick_at self.now))) }
         ensures form { IfOk result (IsKnowledge U) }
@@ -100,7 +100,7 @@ impl<const U: usize> Knowledge<U> {
     }
 
     /// Joined with the other knowledge at the places from `lo` up to but not `hi`, but for the units that
-    /// are skipped there; elsewhere as before. The one error is want of memory.
+    /// are skipped there; elsewhere as before. The one error is running out of memory.
     pub fn learn(
         &self,
         alloc: Global,
@@ -110,7 +110,7 @@ impl<const U: usize> Knowledge<U> {
         skipped: &Skips<U>,
     ) -> Result<Knowledge<U>, Memory>
         ensures ticks { IfOk result (λ k. HasTicks U k
-            (learned lo.now hi.now skipped.now (tick_at self.now) (tick_at from.now))) }
+            (learned_ticks lo.now hi.now skipped.now (tick_at self.now) (tick_at from.now))) }
         ensures form { IfOk result (IsKnowledge U) }
     {
         let mut learned = {
@@ -126,7 +126,7 @@ impl<const U: usize> Knowledge<U> {
     }
 
     /// Joined with the other knowledge at the item's place, but for the units that are skipped there;
-    /// elsewhere as before. The one error is want of memory.
+    /// elsewhere as before. The one error is running out of memory.
     pub fn learn_item(
         &self,
         alloc: Global,
@@ -135,14 +135,14 @@ impl<const U: usize> Knowledge<U> {
         skipped: &Skips<U>,
     ) -> Result<Knowledge<U>, Memory>
         ensures ticks { IfOk result (λ k. HasTicks U k
-            (learned (At id.now) (After id.now) skipped.now (tick_at self.now) (tick_at from.now))) }
+            (learned_ticks (At id.now) (After id.now) skipped.now (tick_at self.now) (tick_at from.now))) }
         ensures form { IfOk result (IsKnowledge U) }
     {
         self.learn(alloc, from, &Cut::At(*id), &Cut::After(*id), skipped)
     }
 
     /// The same knowledge, but that the replica's own tick is the clock everywhere; a clock of 0 takes it
-    /// away. The one error is want of memory.
+    /// away. The one error is running out of memory.
     pub fn with_own(
         &self,
         alloc: Global,
@@ -157,7 +157,7 @@ impl<const U: usize> Knowledge<U> {
         self.with_tick(alloc, id, Tick::new(clock))
     }
 
-    /// The same knowledge without the replica's own tick anywhere. The one error is want of memory.
+    /// The same knowledge without the replica's own tick anywhere. The one error is running out of memory.
     pub fn without_own(&self, alloc: Global, id: &ReplicaId) -> Result<Knowledge<U>, Memory>
         ensures ticks { IfOk result (λ k. HasTicks U k (laid_over id.now 0 (tick_at self.now))) }
         ensures list { IfOk result (λ k. k ≡ with_own U id.now 0 self.now) }
@@ -196,7 +196,7 @@ impl<const U: usize> Knowledge<U> {
         Knowledge { segments }
     }
 
-    /// Equal knowledge of its own memory. The one error is want of memory.
+    /// Equal knowledge of its own memory. The one error is running out of memory.
     pub fn copy(&self, alloc: Global) -> Result<Knowledge<U>, Memory>
         ensures value { IfOk result (λ k. k ≡ self.now) }
         ensures form { IfOk result (IsKnowledge U) }

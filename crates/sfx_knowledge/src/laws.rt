@@ -4,7 +4,7 @@ ghost use Rattle.sfx_ids.specs.declared.cut.Cut.{Cut};
 ghost use Rattle.sfx_ids.specs.declared.item_id.ItemId.{ItemId};
 ghost use Rattle.sfx_vector.specs.Clocks.{tick_of};
 ghost use Rattle.sfx_segments.specs.Segments.{IsPlace};
-ghost use Rattle.sfx_knowledge.specs.Row.{UnitClocks, row_at, IsRow};
+ghost use Rattle.sfx_knowledge.specs.Row.{UnitRowData, row_at, IsClockRow};
 ghost use Rattle.sfx_knowledge.specs.Knowledge.{Known, Ticks, IsKnowledge, HasTicks, KnowAlike, tick_at, laid_over, nothing_known};
 ghost use Rattle.sfx_knowledge.specs.Skips.{is_skipped, AreSkips};
 ghost use Rattle.sfx_knowledge.specs.Forgotten.{Forgets, AreForgets, fvec, nothing_forgotten};
@@ -15,7 +15,7 @@ ghost use Rattle.sfx_knowledge.specs.Forms.{AreTicks, ChangeAtAlone, knowledge_o
 pub fn knowledge_is_its_vectors()
     ensures one_form { (units : ℕ) (a b : Known) → 1 ≤ units → IsKnowledge units a → IsKnowledge units b →
         KnowAlike units a b → a ≡ b }
-    ensures rows { (units : ℕ) (a b : UnitClocks) → 1 ≤ units → IsRow units a → IsRow units b →
+    ensures rows { (units : ℕ) (a b : UnitRowData) → 1 ≤ units → IsClockRow units a → IsClockRow units b →
         ((u r : ℕ) → u < units → tick_of (row_at a u) r ≡ tick_of (row_at b u) r) → a ≡ b }
     ensures nothing { (units : ℕ) → IsKnowledge units nothing_known }
 {}

@@ -34,7 +34,7 @@ impl<const U: usize> Skips<U> {
         }
     }
 
-    /// Adds the unit of the item. The one error is want of memory, and then all stays as it was.
+    /// Adds the unit of the item. The one error is running out of memory, and then all stays as it was.
     pub fn add(&mut self, id: &ItemId, unit: UnitId<U>) -> Result<(), Memory>
         ensures ok { OnOk result (AddsSkip self.old self.new id.now unit.entry) }
         ensures err { OnErr result (self.new ≡ self.old) }
@@ -62,7 +62,7 @@ impl<const U: usize> Skips<U> {
         false
     }
 
-    /// An equal list of its own memory. The one error is want of memory.
+    /// An equal list of its own memory. The one error is running out of memory.
     pub fn copy(&self, alloc: Global) -> Result<Skips<U>, Memory>
         ensures { IfOk result (λ copied. copied ≡ self.now) }
     {

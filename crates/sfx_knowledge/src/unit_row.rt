@@ -1,5 +1,5 @@
 ghost use Rattle.std.specs.Prelude.{◌≡◌, ◌↔◌, [], IsTrue, IfOk, OnOk, OnErr};
-ghost use Rattle.sfx_knowledge.specs.Row.{UnitClocks, row_at, IsRow, ChangesUnit, RowWithin, VectorWithin, MostOfRow};
+ghost use Rattle.sfx_knowledge.specs.Row.{UnitRowData, row_at, IsClockRow, ChangesUnit, RowWithin, VectorWithin, MostOfRow};
 
 use crate::facts::vector_in_form;
 use crate::vectors::{Replaced, row_by};
@@ -17,13 +17,13 @@ pub struct UnitRow<const U: usize> {
 }
 
 impl<const U: usize> Model for UnitRow<U> {
-    ghost use Rattle.sfx_knowledge.specs.Row.{UnitClocks, IsRow};
+    ghost use Rattle.sfx_knowledge.specs.Row.{UnitRowData, IsClockRow};
 
-    ghost Value = { UnitClocks };
+    ghost Value = { UnitRowData };
 
     ghost view = { λ row. record { base = row.base; others = row.others.items } };
 
-    ghost invariant = { λ row. IsRow U (record { base = row.base; others = row.others.items }) };
+    ghost invariant = { λ row. IsClockRow U (record { base = row.base; others = row.others.items }) };
 }
 
 impl<const U: usize> UnitRow<U> {
@@ -41,7 +41,7 @@ impl<const U: usize> UnitRow<U> {
     /// The vector at the unit.
     pub fn get(&self, unit: UnitId<U>) -> &ClockVector
         ensures value { result.now ≡ row_at self.now unit.entry }
-        ensures form { IsRow U self.now }
+        ensures form { IsClockRow U self.now }
     {
         self.at(unit.get())
     }
@@ -50,7 +50,7 @@ impl<const U: usize> UnitRow<U> {
     pub fn put(&mut self, unit: UnitId<U>, vector: &ClockVector) -> Result<(), Memory>
         ensures ok { OnOk result (ChangesUnit U self.old self.new unit.entry vector.now) }
         ensures err { OnErr result (self.new ≡ self.old) }
-        ensures form { IsRow U self.new }
+        ensures form { IsClockRow U self.new }
     {
         let alloc = *self.others.allocator();
         let changed = row_by(
@@ -65,7 +65,7 @@ impl<const U: usize> UnitRow<U> {
         Ok(())
     }
 
-    /// An equal row of its own memory. The one error is want of memory.
+    /// An equal row of its own memory. The one error is running out of memory.
     pub fn copy(&self, alloc: Global) -> Result<UnitRow<U>, Memory>
         ensures { IfOk result (λ copied. copied ≡ self.now) }
     {
@@ -117,14 +117,14 @@ impl<const U: usize> UnitRow<U> {
 
     /// The row is in its one form: this does nothing but say so.
     pub(crate) fn in_form(&self)
-        ensures { IsRow U self.now }
+        ensures { IsClockRow U self.now }
     {
         let _base = &self.base;
     }
 
     /// The row of these vectors: that of unit 0, and those of the units above that differ from it.
     pub(crate) fn of_parts(base: ClockVector, others: Vec<(UnitId<U>, ClockVector)>) -> UnitRow<U>
-        requires { IsRow U (record { base = base; others = others.items }) }
+        requires { IsClockRow U (record { base = base; others = others.items }) }
         ensures { result ≡ record { base = base; others = others.entry.items } }
     {
         UnitRow { base, others }
@@ -133,7 +133,7 @@ impl<const U: usize> UnitRow<U> {
     /// The vector at the unit of this number.
     pub(crate) fn at(&self, unit: usize) -> &ClockVector
         ensures value { result.now ≡ row_at self.now unit }
-        ensures form { IsRow U self.now }
+        ensures form { IsClockRow U self.now }
     {
         for other in &self.others {
             if other.0.get() == unit {

@@ -1,6 +1,6 @@
 ghost use Rattle.std.specs.Prelude.{◌≡◌, ◌≤◌, ◌<◌, ◌^◌, ◌++◌, ◌∷◌, [], ℕ, IfOk, OnOk, if◌then◌else◌, nat_eq};
 ghost use Rattle.sfx_vector.specs.Clocks.{Clocks, AreClocks};
-ghost use Rattle.sfx_knowledge.specs.Row.{row_at, IsRow};
+ghost use Rattle.sfx_knowledge.specs.Row.{row_at, IsClockRow};
 ghost use Rattle.sfx_knowledge.specs.Forms.{exceptions_of, row_of};
 ghost use Rattle.sfx_knowledge.specs.Vectors.{joined_clocks, own_clocks, clock_of};
 

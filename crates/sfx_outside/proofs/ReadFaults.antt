@@ -7,11 +7,11 @@ use Rattle.sfx_outside.specs.declared.read_fault.ReadFault.TheVariants.{Failed, 
 pub failed_not_long : {T : Type 0} (fault : ReadFault) → fault ≡ Failed → IsErrOf {T = T} (Err fault) TooLong → ⊥
 failed_not_long fault is long = cc
 
--- want of memory is not too long a text
+-- running out of memory is not too long a text
 pub memory_not_long : {T : Type 0} (fault : ReadFault) → fault ≡ Memory → IsErrOf {T = T} (Err fault) TooLong → ⊥
 memory_not_long fault is long = cc
 
--- want of memory is no failed read
+-- running out of memory is no failed read
 pub memory_not_failed : {T : Type 0} (fault : ReadFault) → fault ≡ Memory → IsErrOf {T = T} (Err fault) Failed → ⊥
 memory_not_failed fault is failed = cc
 

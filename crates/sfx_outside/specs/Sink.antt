@@ -7,6 +7,6 @@ use Rattle.std.specs.Option.{option_map}
 abbrev pub Adds : Option (List ℕ) → Option (List ℕ) → List ℕ → Type 0
 Adds old new bytes = new ≡ option_map (λ held. held ++ bytes) old
 
--- Some front of the piece has been added, perhaps nothing and perhaps all of it.
-abbrev pub AddsFront : Option (List ℕ) → Option (List ℕ) → List ℕ → Type 0
-AddsFront old new piece = (n : ℕ) × (n ≤ length piece) × Adds old new (take n piece)
+-- Some prefix of the piece has been added, perhaps nothing and perhaps all of it.
+abbrev pub AddsPrefix : Option (List ℕ) → Option (List ℕ) → List ℕ → Type 0
+AddsPrefix old new piece = (n : ℕ) × (n ≤ length piece) × Adds old new (take n piece)

@@ -2,7 +2,7 @@
 use Rattle.std.specs.Prelude.{◌≡◌, ℕ, ◌≤◌, List, [], ◌++◌, length, Option, IfSome}
 use Rattle.std.specs.Option.{option_map}
 
--- These bytes were the front of what was left, and the rest is left now, where the source tells.
+-- These bytes were the prefix of what was left, and the rest is left now, where the source tells.
 -- Whether it tells is as before.
 abbrev pub Takes : Option (List ℕ) → Option (List ℕ) → List ℕ → Type 0
 Takes old new bytes = old ≡ option_map (λ rest. bytes ++ rest) new

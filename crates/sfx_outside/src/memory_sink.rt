@@ -13,9 +13,9 @@ pub struct MemorySink {
 }
 
 impl Model for MemorySink {
-    ghost use Rattle.sfx_outside.specs.MemorySink.{SinkState};
+    ghost use Rattle.sfx_outside.specs.MemorySink.{MemorySinkData};
 
-    ghost Value = { SinkState };
+    ghost Value = { MemorySinkData };
 
     ghost view = { λ s. record {
       held = s.bytes.items;
@@ -46,7 +46,7 @@ impl MemorySink {
 
 impl Sink for MemorySink {
     ghost use Rattle.std.specs.Prelude.{Some};
-    ghost use Rattle.sfx_outside.specs.MemorySink.{IsSink, FailsNext, after_write, after_fault};
+    ghost use Rattle.sfx_outside.specs.MemorySink.{IsSink, SinkFailsNext, after_write, sink_after_fault};
 
     ghost held = { λ s. Some s.held };
 
@@ -54,10 +54,10 @@ impl Sink for MemorySink {
 
     fn write(&mut self, piece: &[u8]) -> Result<usize, SinkFault>
         ensures valid { IsSink self.old }
-        ensures fails { IsErrOf result SinkFault.Failed ↔ FailsNext self.old }
+        ensures fails { IsErrOf result SinkFault.Failed ↔ SinkFailsNext self.old }
         ensures count { IfOk result (λ n. n ≡ length piece.now) }
         ensures after { OnOk result (self.new ≡ after_write self.old piece.now) }
-        ensures fault { IsErrOf result SinkFault.Failed → self.new ≡ after_fault self.old }
+        ensures fault { IsErrOf result SinkFault.Failed → self.new ≡ sink_after_fault self.old }
         ensures memory { IsErrOf result SinkFault.Memory → self.new ≡ after_write self.old [] }
     {
         if self.calls.next_fails() {

@@ -15,9 +15,9 @@ pub struct MemorySource {
 
 impl Model for MemorySource {
     ghost use Rattle.std.specs.Prelude.{◌≤◌, drop, vec_len};
-    ghost use Rattle.sfx_outside.specs.MemorySource.{SourceState};
+    ghost use Rattle.sfx_outside.specs.MemorySource.{MemorySourceData};
 
-    ghost Value = { SourceState };
+    ghost Value = { MemorySourceData };
 
     ghost view = { λ s. record {
       left = drop s.at s.bytes.items;
@@ -48,7 +48,7 @@ impl MemorySource {
 
 impl Source for MemorySource {
     ghost use Rattle.std.specs.Prelude.{Some};
-    ghost use Rattle.sfx_outside.specs.MemorySource.{IsSource, FailsNext, next_count, after_read, after_fault};
+    ghost use Rattle.sfx_outside.specs.MemorySource.{IsSource, SourceFailsNext, next_count, after_read, source_after_fault};
 
     ghost left = { λ s. Some s.left };
 
@@ -56,11 +56,11 @@ impl Source for MemorySource {
 
     fn read(&mut self, into: &mut [u8]) -> Result<usize, Failed>
         ensures valid { IsSource self.old }
-        ensures fails { IsErr result ↔ FailsNext self.old }
+        ensures fails { IsErr result ↔ SourceFailsNext self.old }
         ensures count { IfOk result (λ n. n ≡ next_count self.old (length into.old)) }
         ensures bytes { IfOk result (λ n. into.new ≡ take n self.old.left ++ drop n into.old) }
         ensures after { IfOk result (λ n. self.new ≡ after_read self.old n) }
-        ensures fault { OnErr result (self.new ≡ after_fault self.old) }
+        ensures fault { OnErr result (self.new ≡ source_after_fault self.old) }
         ensures untouched { OnErr result (into.new ≡ into.old) }
     {
         if self.calls.next_fails() {

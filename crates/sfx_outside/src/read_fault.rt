@@ -1,5 +1,5 @@
 ghost use Rattle.std.specs.Prelude.{◌≡◌};
-ghost use Rattle.sfx_outside.specs.declared.read_fault.ReadFault.TheVariants.{Failed as SourceFailed, Memory as OutOfMemory};
+ghost use Rattle.sfx_outside.specs.declared.read_fault.ReadFault.TheVariants as read_faults;
 
 use crate::Failed;
 use std::alloc::AllocError;
@@ -30,7 +30,7 @@ impl fmt::Display for ReadFault {
 impl Error for ReadFault {}
 
 impl From<Failed> for ReadFault {
-    ghost from_gives = { λ _ fault. fault ≡ SourceFailed };
+    ghost from_gives = { λ _ fault. fault ≡ read_faults.Failed };
 
     fn from(_failed: Failed) -> Self {
         ReadFault::Failed
@@ -38,7 +38,7 @@ impl From<Failed> for ReadFault {
 }
 
 impl From<AllocError> for ReadFault {
-    ghost from_gives = { λ _ fault. fault ≡ OutOfMemory };
+    ghost from_gives = { λ _ fault. fault ≡ read_faults.Memory };
 
     fn from(_error: AllocError) -> Self {
         ReadFault::Memory

@@ -31,7 +31,7 @@ pub fn read_to_end<A: Source>(
     ensures faults { A.faults input.old ≤ A.faults input.new }
     ensures cause { IsErrOf result ReadFault.Failed → HasRisen (A.faults input.old) (A.faults input.new) }
 
-    // Where no read fails the length decides, but for want of memory.
+    // Where no read fails the length decides, but where memory ran out.
     ensures short { ¬ HasRisen (A.faults input.old) (A.faults input.new) →
         IfSome (A.left input.old) (λ all. length all ≤ limit → IsOk result ⊎ IsErrOf result ReadFault.Memory) }
     ensures long { ¬ HasRisen (A.faults input.old) (A.faults input.new) →

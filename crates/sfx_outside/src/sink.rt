@@ -1,6 +1,6 @@
 ghost use Rattle.std.specs.Prelude.{◌≡◌, ℕ, ◌<◌, ◌≤◌, Option, List, length, take, IfOk, OnErr, IsErrOf};
 ghost use Rattle.sfx_outside.specs.Fault.{HasRisen};
-ghost use Rattle.sfx_outside.specs.Sink.{Adds, AddsFront};
+ghost use Rattle.sfx_outside.specs.Sink.{Adds, AddsPrefix};
 
 use crate::SinkFault;
 
@@ -13,17 +13,17 @@ pub trait Sink {
     // How many writes have failed.
     ghost faults: { Self → ℕ };
 
-    /// Takes a front of `piece`, and says how many bytes that is: at least one, unless the piece is
+    /// Takes a prefix of `piece`, and says how many bytes that is: at least one, unless the piece is
     /// empty.
     ///
     /// # Errors
-    /// `Failed`, only where the count of faults rose, and `Memory`. In both cases a front of the
+    /// `Failed`, only where the count of faults rose, and `Memory`. In both cases a prefix of the
     /// piece may have been taken, perhaps nothing.
     fn write(&mut self, piece: &[u8]) -> Result<usize, SinkFault>
         ensures count { IfOk result (λ n. n ≤ length piece.now) }
         ensures progress { IfOk result (λ n. 0 < length piece.now → 0 < n) }
         ensures added { IfOk result (λ n. Adds (held self.old) (held self.new) (take n piece.now)) }
-        ensures err { OnErr result (AddsFront (held self.old) (held self.new) piece.now) }
+        ensures err { OnErr result (AddsPrefix (held self.old) (held self.new) piece.now) }
         ensures faults { faults self.old ≤ faults self.new }
         ensures cause { IsErrOf result SinkFault.Failed → HasRisen (faults self.old) (faults self.new) };
 }

@@ -1,5 +1,5 @@
 ghost use Rattle.std.specs.Prelude.{◌≡◌};
-ghost use Rattle.sfx_outside.specs.declared.sink_fault.SinkFault.TheVariants.{Memory as OutOfMemory};
+ghost use Rattle.sfx_outside.specs.declared.sink_fault.SinkFault.TheVariants as sink_faults;
 
 use std::alloc::AllocError;
 use std::error::Error;
@@ -26,7 +26,7 @@ impl fmt::Display for SinkFault {
 impl Error for SinkFault {}
 
 impl From<AllocError> for SinkFault {
-    ghost from_gives = { λ _ fault. fault ≡ OutOfMemory };
+    ghost from_gives = { λ _ fault. fault ≡ sink_faults.Memory };
 
     fn from(_error: AllocError) -> Self {
         SinkFault::Memory

@@ -13,7 +13,7 @@ pub trait Source {
     // How many reads have failed.
     ghost faults: { Self → ℕ };
 
-    /// Reads the next bytes into the front of `into` and says how many they are. For a slice that is
+    /// Reads the next bytes into the prefix of `into` and says how many they are. For a slice that is
     /// not empty, 0 is the end: nothing is left.
     ///
     /// # Errors

@@ -1,7 +1,7 @@
 ghost use Rattle.std.specs.Prelude.{◌≡◌, ◌<◌, ◌≤◌, ◌^◌, IfOk, OnErr, is_ok, length, take, IsErrOf, if◌then◌else◌};
 ghost use Rattle.std.specs.Io.KnownBytes.{Appends, WriteAppends};
 ghost use Rattle.sfx_outside.specs.Fault.{counted};
-ghost use Rattle.sfx_outside.specs.StdSink.{AppendsFront};
+ghost use Rattle.sfx_outside.specs.StdSink.{AppendsPrefix};
 
 use crate::{Sink, SinkFault};
 use std::io;
@@ -20,9 +20,9 @@ pub struct StdSink<W: Write> {
 
 impl<W: Write> Model for StdSink<W> {
     ghost use Rattle.std.specs.Prelude.{◌<◌, ◌^◌};
-    ghost use Rattle.sfx_outside.specs.StdSink.{WriterState};
+    ghost use Rattle.sfx_outside.specs.StdSink.{StdSinkData};
 
-    ghost Value = { WriterState };
+    ghost Value = { StdSinkData };
 
     ghost view = { λ s. record { known = W.contents s.writer; faults = s.faults } };
 
@@ -63,7 +63,7 @@ impl<W: Write> Sink for StdSink<W> {
         ensures count { IfOk result (λ n. n ≤ length piece.now) }
         ensures progress { IfOk result (λ n. 0 < length piece.now → 0 < n) }
         ensures writer { IfOk result (λ n. Appends self.old.known self.new.known (take n piece.now)) }
-        ensures err { OnErr result (AppendsFront self.old.known self.new.known piece.now) }
+        ensures err { OnErr result (AppendsPrefix self.old.known self.new.known piece.now) }
         ensures failed { OnErr result (IsErrOf result SinkFault.Failed) }
         ensures fits { self.old.faults < 2 ^ 64 }
         ensures faults { self.new.faults ≡ (if is_ok result then self.old.faults else counted self.old.faults) }
@@ -78,11 +78,11 @@ impl<W: Write> Sink for StdSink<W> {
     }
 }
 
-/// Writes a front of the piece and flushes.
+/// Writes a prefix of the piece and flushes.
 fn write_through<W: Write>(writer: &mut W, piece: &[u8]) -> io::Result<usize>
     ensures count { IfOk result (λ n. n ≤ length piece.now) }
     ensures ok { IfOk result (λ n. Appends (W.contents writer.old) (W.contents writer.new) (take n piece.now)) }
-    ensures err { OnErr result (AppendsFront (W.contents writer.old) (W.contents writer.new) piece.now) }
+    ensures err { OnErr result (AppendsPrefix (W.contents writer.old) (W.contents writer.new) piece.now) }
 {
     let count = write_some(writer, piece)?;
     writer.flush()?;

@@ -21,9 +21,9 @@ pub struct StdSource<R: Read> {
 
 impl<R: Read> Model for StdSource<R> {
     ghost use Rattle.std.specs.Prelude.{◌<◌, ◌^◌};
-    ghost use Rattle.sfx_outside.specs.StdSource.{ReaderState};
+    ghost use Rattle.sfx_outside.specs.StdSource.{StdSourceData};
 
-    ghost Value = { ReaderState };
+    ghost Value = { StdSourceData };
 
     ghost view = { λ s. record { known = R.remaining s.reader; faults = s.faults } };
 
@@ -71,7 +71,7 @@ impl<R: Read> Source for StdSource<R> {
     }
 }
 
-/// Reads once into the front of `into`, by way of `piece`, and leaves the rest of it as it is.
+/// Reads once into the prefix of `into`, by way of `piece`, and leaves the rest of it as it is.
 fn read_piece<R: Read>(reader: &mut R, piece: &mut [u8], into: &mut [u8]) -> io::Result<usize>
     requires { 0 < length piece.old }
     ensures count { IfOk result (λ n. n ≤ length into.old) }

@@ -37,7 +37,7 @@ impl Text {
         self.text.as_str()
     }
 
-    /// An equal text. The one error is want of memory.
+    /// An equal text. The one error is running out of memory.
     pub fn copy(&self, alloc: Global) -> Result<Self, Memory>
         ensures { IfOk result (λ copy. copy ≡ self.now) }
     {

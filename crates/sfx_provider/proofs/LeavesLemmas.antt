@@ -2,8 +2,8 @@
 use Rattle.std.proofs.Common.{◌≡◌, ◌∙◌, List, [], ◌∷◌, ◌++◌, Option, Some, None, append_assoc, ap, inl, inr, refl, sym, subst}
 use Rattle.std.proofs.lemmas.List.{append-nil}
 use Rattle.std.specs.Prelude.{IfSome, is_some}
-use Rattle.sfx_model.specs.Members.{Member}
-use Rattle.sfx_model.specs.Sets.{Has, IsPart}
+use Rattle.sfx_model.specs.members.Members.{Member}
+use Rattle.sfx_model.specs.world.Sets.{Has, IsPart}
 use Rattle.sfx_provider.specs.Course.{CameInPart}
 use Rattle.sfx_provider.specs.Leaves.{Arrives, BreaksOff, Rests}
 

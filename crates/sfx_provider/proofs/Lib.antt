@@ -1,7 +1,7 @@
-pub mod Commits
-pub mod Walks
-pub mod Courses
-pub mod Heads
-pub mod Causes
+pub mod CommitLemmas
+pub mod WalkLemmas
+pub mod CourseLemmas
+pub mod HeadLemmas
+pub mod FaultLemmas
 pub mod LeavesLemmas
-pub mod Exits
+pub mod AnswerLemmas

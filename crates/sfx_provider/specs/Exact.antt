@@ -5,8 +5,8 @@ use Rattle.sfx_ids.specs.declared.item_id.ItemId.{ItemId}
 use Rattle.sfx_segments.specs.Segments.{IsPlace}
 use Rattle.sfx_knowledge.specs.Knowledge.{tick_at}
 use Rattle.sfx_item.specs.Item.{ItemState}
-use Rattle.sfx_model.specs.Members.{Member, state_of, vector_at}
-use Rattle.sfx_model.specs.Sets.{Has}
+use Rattle.sfx_model.specs.members.Members.{Member, state_of, vector_at}
+use Rattle.sfx_model.specs.world.Sets.{Has}
 use Rattle.sfx_provider.specs.Commit.{CommitData}
 
 -- The commit changes the state m to n.

@@ -9,11 +9,11 @@ use Rattle.sfx_vector.specs.Clocks.{tick_of}
 use Rattle.sfx_segments.specs.Segments.{IsPlace}
 use Rattle.sfx_knowledge.specs.Knowledge.{Known, KnowsVersion, tick_at}
 use Rattle.sfx_knowledge.specs.Forgotten.{AreForgets, Forgets, fvec}
-use Rattle.sfx_model.specs.Consistent.{IsItemState, AreApart}
+use Rattle.sfx_model.specs.members.Consistent.{IsItemState, AreApart}
 use Rattle.sfx_item.specs.Item.{version_at, ItemState}
-use Rattle.sfx_model.specs.Members.{Member, AreIdsRising, AreRising, state_of, vector_at}
-use Rattle.sfx_model.specs.Sets.{Has}
-use Rattle.sfx_provider.specs.Commit.{CommitData, committed}
+use Rattle.sfx_model.specs.members.Members.{Member, AreIdsAscending, AreAscending, state_of, vector_at}
+use Rattle.sfx_model.specs.world.Sets.{Has}
+use Rattle.sfx_provider.specs.Commit.{CommitData, after_commit}
 
 -- What is known covers all that the replica knew, its own versions included.
 abbrev pub CoversKnowledge : ℕ → Member → Known → Type 0
@@ -37,7 +37,7 @@ pub record IsKnownItem (units : ℕ) (known : Known) (i : ItemId) (state : ItemS
   pub versions : (u : ℕ) (v : Version) → u < units → version_at state u ≡ Some v → KnowsVersion known i u v
 
 -- The replica's state takes the commit.
-pub record Fits (units : ℕ) (c : CommitData) (m : Member) : Type 0 where
+pub record FitsMember (units : ℕ) (c : CommitData) (m : Member) : Type 0 where
   -- clock, knowledge and forgotten deletions are not below the replica's
   pub clock : m.clock ≤ c.clock
   pub knowledge : CoversKnowledge units m c.knowledge
@@ -49,11 +49,11 @@ pub record Fits (units : ℕ) (c : CommitData) (m : Member) : Type 0 where
   pub forgets : AreForgets c.forgotten
   pub made : (place : Cut) → IsPlace place → tick_of (fvec c.forgotten place) m.id ≤ c.clock
   -- the items that are put ascend; each is whole and known
-  pub puts : AreRising c.puts
+  pub puts : AreAscending c.puts
   pub items : (i : ItemId) (state : ItemState) → state_of c.puts i ≡ Some state → IsKnownItem units c.knowledge i state
   -- the ids that are dropped ascend; each is that of a present item that is not put
-  pub drops : AreIdsRising c.drops
+  pub drops : AreIdsAscending c.drops
   pub present : (i : ItemId) → Has i c.drops → IsSome (state_of m.items i)
   pub apart : (i : ItemId) → Has i c.drops → state_of c.puts i ≡ None
   -- live names do not clash afterwards
-  pub names : AreApart (committed units c m).items
+  pub names : AreApart (after_commit units c m).items

@@ -3,7 +3,7 @@ use Rattle.std.specs.Prelude.{ℕ}
 use Rattle.sfx_knowledge.specs.Knowledge.{Known}
 use Rattle.sfx_knowledge.specs.Forgotten.{Forgets}
 use Rattle.sfx_knowledge.specs.Forms.{with_own}
-use Rattle.sfx_model.specs.Members.{Member}
+use Rattle.sfx_model.specs.members.Members.{Member}
 
 -- A head as plain data.
 pub record HeadData : Type 0 where

@@ -1,8 +1,8 @@
 -- What a call leaves of a provider, in terms of its members: its state; the state that its storage keeps,
 -- where it tells that; whether its storage is settled; and the states that it came by.
 use Rattle.std.specs.Prelude.{◌≡◌, List, [], Option, IfSome, is_some}
-use Rattle.sfx_model.specs.Members.{Member}
-use Rattle.sfx_model.specs.Sets.{Has}
+use Rattle.sfx_model.specs.members.Members.{Member}
+use Rattle.sfx_model.specs.world.Sets.{Has}
 use Rattle.sfx_provider.specs.Course.{CameInPart}
 
 -- The provider is as it was: its state and its kept state are the same, it came by no commit, and it is

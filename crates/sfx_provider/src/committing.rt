@@ -1,5 +1,5 @@
 ghost use Rattle.std.specs.Prelude.{◌∷◌, OnOk, OnErr};
-ghost use Rattle.sfx_provider.specs.Course.{AllFit, committed_all, states_after};
+ghost use Rattle.sfx_provider.specs.Course.{CommitsFit, after_commits, states_after};
 ghost use Rattle.sfx_provider.specs.Fault.{HasCause, blames_storage};
 ghost use Rattle.sfx_provider.specs.Leaves.{Arrives, BreaksOff};
 
@@ -15,10 +15,10 @@ pub fn commit_all<const U: usize, P: Provider<U>>(
     commits: &[Commit<U>],
 ) -> Result<(), ProviderFault>
     requires settled { P.settled provider.old }
-    requires fit { AllFit U commits.now (P.state provider.old) }
+    requires fit { CommitsFit U commits.now (P.state provider.old) }
     ensures arrives { let first = P.state provider.old in
         OnOk result (Arrives P.state P.kept P.settled P.came provider.old provider.new
-        (states_after U commits.now first) (committed_all U commits.now first)) }
+        (states_after U commits.now first) (after_commits U commits.now first)) }
     ensures breaks_off { let states = states_after U commits.now (P.state provider.old) in
         OnErr result (BreaksOff P.kept P.came P.broke provider.old provider.new states
         (P.state provider.old ∷ states)) }

@@ -1,11 +1,11 @@
 ghost use Rattle.std.specs.Prelude.{◌≡◌, ◌⊎◌, ℕ, List, [], ◌∷◌, ◌++◌, Option, Some, take, IfOk, IfSome, OnOk, OnErr};
 ghost use Rattle.std.specs.Option.{option_map};
-ghost use Rattle.sfx_model.specs.Consistent.{IsConsistent};
-ghost use Rattle.sfx_model.specs.Members.{Member, state_of};
-ghost use Rattle.sfx_model.specs.Readings.{clashing_with, first_from, unseen};
-ghost use Rattle.sfx_provider.specs.Commit.{committed};
+ghost use Rattle.sfx_model.specs.members.Consistent.{IsConsistent};
+ghost use Rattle.sfx_model.specs.members.Members.{Member, state_of};
+ghost use Rattle.sfx_model.specs.members.Readings.{clashing_with, first_from, unseen};
+ghost use Rattle.sfx_provider.specs.Commit.{after_commit};
 ghost use Rattle.sfx_provider.specs.Fault.{HasCause, blames_storage};
-ghost use Rattle.sfx_provider.specs.Fits.{Fits};
+ghost use Rattle.sfx_provider.specs.Fits.{FitsMember};
 ghost use Rattle.sfx_provider.specs.Head.{head_of};
 ghost use Rattle.sfx_provider.specs.Leaves.{Arrives, BreaksOff, Rests};
 
@@ -121,13 +121,13 @@ pub trait Provider<const U: usize> {
     /// that Ok would have given, and so is the kept state, where it is told.
     fn commit(&mut self, commit: &Commit<U>) -> Result<(), ProviderFault>
         requires settled { settled self.old }
-        requires fits { Fits U commit.now (state self.old) }
-        ensures arrives { let next = committed U commit.now (state self.old) in
+        requires fits { FitsMember U commit.now (state self.old) }
+        ensures arrives { let next = after_commit U commit.now (state self.old) in
             OnOk result (Arrives state kept settled came self.old self.new (next ∷ []) next) }
-        ensures broke { OnErr result (broke self.old self.new (committed U commit.now (state self.old))) }
-        ensures state_err { let next = committed U commit.now (state self.old) in
+        ensures broke { OnErr result (broke self.old self.new (after_commit U commit.now (state self.old))) }
+        ensures state_err { let next = after_commit U commit.now (state self.old) in
             OnErr result ((state self.new ≡ state self.old) ⊎ (state self.new ≡ next)) }
-        ensures breaks_off { let next = committed U commit.now (state self.old) in
+        ensures breaks_off { let next = after_commit U commit.now (state self.old) in
             OnErr result (BreaksOff kept came broke self.old self.new (next ∷ []) (state self.old ∷ next ∷ [])) }
         ensures cause { HasCause blames_storage (faults self.old) (faults self.new) result };
 

@@ -1,7 +1,7 @@
-pub mod Gathering
-pub mod Comparing
-pub mod Refusing
-pub mod Consistency
-pub mod Writing
-pub mod Scanning
-pub mod Calling
+pub mod UnseenItems
+pub mod LiveLemmas
+pub mod RefusalsLemmas
+pub mod EditsKeepConsistency
+pub mod EditsLemmas
+pub mod ClashingItems
+pub mod CountedCalls

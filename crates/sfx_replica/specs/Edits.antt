@@ -3,9 +3,9 @@ use Rattle.std.specs.Prelude.{ℕ, ◌+◌, List, [], Option, Some, None}
 use Rattle.sfx_ids.specs.declared.item_id.ItemId.{ItemId}
 use Rattle.sfx_knowledge.specs.Knowledge.{nothing_known}
 use Rattle.sfx_knowledge.specs.Forgotten.{nothing_forgotten}
-use Rattle.sfx_item.specs.Item.{ItemState, Live, Dead, MemberItem}
-use Rattle.sfx_model.specs.Members.{Member, state_of}
-use Rattle.sfx_model.specs.States.{cells_with, next_created, with_item, with_state}
+use Rattle.sfx_item.specs.Item.{ItemState, Live, Dead, ItemData}
+use Rattle.sfx_model.specs.members.Members.{Member, state_of}
+use Rattle.sfx_model.specs.members.States.{cells_with, next_created, with_item, with_state}
 
 -- A replica that has made, learned and forgotten nothing.
 abbrev pub new_member : ℕ → Member
@@ -18,7 +18,7 @@ new_member id = record {
 }
 
 -- The replica after its clock rose by one and its items changed to these.
-abbrev pub risen : Member → List MemberItem → Member
+abbrev pub risen : Member → List ItemData → Member
 risen m items = record m { clock = m.clock + 1; items = items }
 
 -- The replica after it created an item with these values.

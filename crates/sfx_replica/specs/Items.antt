@@ -8,16 +8,16 @@ use Rattle.sfx_ids.specs.declared.item_id.ItemId.{ItemId}
 use Rattle.sfx_item.specs.declared.cell.Cell.{Cell}
 use Rattle.sfx_knowledge.specs.Knowledge.{Known}
 use Rattle.sfx_items.specs.Places.{has_id}
-use Rattle.sfx_item.specs.Item.{Live, MemberItem}
-use Rattle.sfx_model.specs.Members.{state_of}
-use Rattle.sfx_model.specs.Readings.{is_unseen}
+use Rattle.sfx_item.specs.Item.{Live, ItemData}
+use Rattle.sfx_model.specs.members.Members.{state_of}
+use Rattle.sfx_model.specs.members.Readings.{is_unseen}
 
 -- The item's place is not before this one, and it has a unit whose version the knowledge does not contain.
-abbrev pub is_next_unseen : ℕ → Known → Cut → MemberItem → Bool
+abbrev pub is_next_unseen : ℕ → Known → Cut → ItemData → Bool
 is_next_unseen units known from x = cut_le from (At x.id) && is_unseen units known x
 
 -- The item with this id is a live one at this place, and `unit` is its unit with this number.
-pub record IsTarget (units : ℕ) (items : List MemberItem) (i : ItemId) (k place unit : ℕ) : Type 0 where
+pub record IsTarget (units : ℕ) (items : List ItemData) (i : ItemId) (k place unit : ℕ) : Type 0 where
   pub found : position_from (has_id i) 0 items ≡ Some place
   pub live : (cells : List Cell) × (state_of items i ≡ Some (Live cells))
   pub same : unit ≡ k

@@ -5,21 +5,21 @@ use Rattle.sfx_ids.specs.declared.item_id.ItemId.{ItemId}
 use Rattle.sfx_ids.specs.Tick.{max_tick}
 use Rattle.sfx_item.specs.Decided.{name_fault}
 use Rattle.sfx_item.specs.Item.{ItemState, Live, Dead}
-use Rattle.sfx_model.specs.Members.{Member, state_of}
+use Rattle.sfx_model.specs.members.Members.{Member, state_of}
 use Rattle.sfx_replica.specs.declared.edit_fault.EditFault.{EditFault}
 use Rattle.sfx_replica.specs.declared.edit_fault.EditFault.TheVariants.{NoItem, Deleted, BadUnit, BadName, Clash, ClockFull, NotDeleted, Memory}
-use Rattle.sfx_model.specs.Readings.{first_clash}
+use Rattle.sfx_model.specs.members.Readings.{first_clash}
 
--- The edit was refused: any fault but want of memory is a refusal.
-abbrev pub is_refusal : EditFault → Bool
-is_refusal NoItem = true
-is_refusal Deleted = true
-is_refusal (BadUnit k u) = true
-is_refusal (BadName at) = true
-is_refusal (Clash item) = true
-is_refusal (ClockFull clock) = true
-is_refusal NotDeleted = true
-is_refusal Memory = false
+-- The edit was refused: any fault but running out of memory is a refusal.
+abbrev pub refuses_edit : EditFault → Bool
+refuses_edit NoItem = true
+refuses_edit Deleted = true
+refuses_edit (BadUnit k u) = true
+refuses_edit (BadName at) = true
+refuses_edit (Clash item) = true
+refuses_edit (ClockFull clock) = true
+refuses_edit NotDeleted = true
+refuses_edit Memory = false
 
 -- The bytes are no name.
 abbrev pub bad_name : List ℕ → Option EditFault

@@ -2,7 +2,7 @@
 ghost use Rattle.std.specs.Prelude.{◌≡◌, IfOk};
 ghost use Rattle.std.specs.Option.{option_copied};
 ghost use Rattle.sfx_item.specs.Item.{state_view};
-ghost use Rattle.sfx_model.specs.Readings.{clashing_with, first_clash, is_clashing, is_in_the_way};
+ghost use Rattle.sfx_model.specs.members.Readings.{clashing_with, first_clash, is_clashing, is_in_the_way};
 
 use sfx_ids::ItemId;
 use sfx_item::{Item, Name, State, clashes};

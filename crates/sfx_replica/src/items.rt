@@ -6,8 +6,8 @@ ghost use Rattle.sfx_item.specs.Name.{IsName};
 ghost use Rattle.sfx_item.specs.declared.cell.Cell.{Cell};
 ghost use Rattle.sfx_items.specs.Places.{has_id};
 ghost use Rattle.sfx_item.specs.Item.{Live};
-ghost use Rattle.sfx_model.specs.Members.{AreRising, Member, state_of};
-ghost use Rattle.sfx_model.specs.States.{cells_at, with_state};
+ghost use Rattle.sfx_model.specs.members.Members.{AreAscending, Member, state_of};
+ghost use Rattle.sfx_model.specs.members.States.{cells_at, with_state};
 ghost use Rattle.sfx_replica.specs.Items.{IsTarget};
 ghost use Rattle.sfx_replica.specs.Refusals.{state_refusal};
 
@@ -24,7 +24,7 @@ pub fn target<const U: usize>(
     id: &ItemId,
     k: usize,
 ) -> Result<(usize, UnitId<U>), EditFault>
-    requires rising { AreRising items.now }
+    requires ascending { AreAscending items.now }
     ensures ok { IfOk result (λ found. IsTarget U items.now id.now k found.0 found.1) }
     ensures err { let state = state_of items.now id.now in
         IfErr result (λ fault. (m : Member) (value : List ℕ) → state_refusal U m id.now k value state ≡ Some fault) }

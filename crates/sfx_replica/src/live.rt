@@ -1,6 +1,6 @@
 //! The live items of two replicas, compared.
 ghost use Rattle.std.specs.Prelude.{◌≡◌, ◌≤◌, ◌↔◌, length, IsTrue};
-ghost use Rattle.sfx_model.specs.Headline.{live_items};
+ghost use Rattle.sfx_model.specs.members.Headline.{live_items};
 ghost use Rattle.sfx_replica.specs.Live.{BeginsLive};
 
 use sfx_item::{Item, State};

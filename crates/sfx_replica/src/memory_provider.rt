@@ -1,9 +1,9 @@
 ghost use Rattle.std.specs.Prelude.{◌≡◌, ◌⊎◌, ◌∷◌, [], Some, take, IfOk, IfSome, OnOk, OnErr};
 ghost use Rattle.std.specs.Option.{option_map};
-ghost use Rattle.sfx_model.specs.Members.{state_of};
-ghost use Rattle.sfx_model.specs.Readings.{clashing_with, first_from, unseen};
-ghost use Rattle.sfx_provider.specs.Commit.{committed};
-ghost use Rattle.sfx_provider.specs.Fits.{Fits};
+ghost use Rattle.sfx_model.specs.members.Members.{state_of};
+ghost use Rattle.sfx_model.specs.members.Readings.{clashing_with, first_from, unseen};
+ghost use Rattle.sfx_provider.specs.Commit.{after_commit};
+ghost use Rattle.sfx_provider.specs.Fits.{FitsMember};
 ghost use Rattle.sfx_provider.specs.Head.{head_of};
 ghost use Rattle.sfx_provider.specs.Leaves.{Arrives, BreaksOff};
 ghost use Rattle.sfx_replica.specs.MemoryProvider.{Counts, IsProvider, Reads};
@@ -28,9 +28,9 @@ pub struct MemoryProvider<const U: usize> {
 
 impl<const U: usize> Model for MemoryProvider<U> {
     ghost use Rattle.std.specs.Prelude.{◌≡◌, []};
-    ghost use Rattle.sfx_replica.specs.MemoryProvider.{ProviderState};
+    ghost use Rattle.sfx_replica.specs.MemoryProvider.{MemoryProviderData};
 
-    ghost Value = { ProviderState };
+    ghost Value = { MemoryProviderData };
 
     ghost view = { λ p. record {
       member = p.replica;
@@ -75,9 +75,9 @@ impl<const U: usize> MemoryProvider<U> {
 impl<const U: usize> Provider<U> for MemoryProvider<U> {
     ghost use Rattle.std.proofs.Common.{◌∙◌};
     ghost use Rattle.std.specs.Prelude.{refl};
-    ghost use Rattle.sfx_replica.specs.MemoryProvider.{BrokeAt, CameBy, FailAlike, IsSettled, kept_by, member_of};
+    ghost use Rattle.sfx_replica.specs.MemoryProvider.{BrokeAt, CameBy, FailAlike, IsSettled, kept_by, held_member};
 
-    ghost state = { member_of };
+    ghost state = { held_member };
 
     ghost kept = { kept_by };
 
@@ -161,16 +161,16 @@ impl<const U: usize> Provider<U> for MemoryProvider<U> {
     }
 
     fn commit(&mut self, commit: &Commit<U>) -> Result<(), ProviderFault>
-        requires fits { Fits U commit.now self.old.member }
+        requires fits { FitsMember U commit.now self.old.member }
         ensures counts { Counts self.old self.new result }
-        ensures ok { OnOk result (self.new.member ≡ committed U commit.now self.old.member) }
+        ensures ok { OnOk result (self.new.member ≡ after_commit U commit.now self.old.member) }
         ensures err { OnErr result (self.new.member ≡ self.old.member) }
-        ensures arrives { let next = committed U commit.now self.old.member in
-            OnOk result (Arrives member_of kept_by IsSettled CameBy self.old self.new (next ∷ []) next) }
+        ensures arrives { let next = after_commit U commit.now self.old.member in
+            OnOk result (Arrives held_member kept_by IsSettled CameBy self.old self.new (next ∷ []) next) }
         ensures broke { OnErr result (FailAlike self.old self.new) }
-        ensures state_err { let next = committed U commit.now self.old.member in
+        ensures state_err { let next = after_commit U commit.now self.old.member in
             OnErr result ((self.new.member ≡ self.old.member) ⊎ (self.new.member ≡ next)) }
-        ensures breaks_off { let next = committed U commit.now self.old.member in
+        ensures breaks_off { let next = after_commit U commit.now self.old.member in
             OnErr result (BreaksOff kept_by CameBy BrokeAt self.old self.new (next ∷ [])
             (self.old.member ∷ next ∷ [])) }
     {

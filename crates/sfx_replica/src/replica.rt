@@ -27,8 +27,8 @@ pub struct Replica<const U: usize> {
 }
 
 impl<const U: usize> Model for Replica<U> {
-    ghost use Rattle.sfx_model.specs.Members.{Member};
-    ghost use Rattle.sfx_model.specs.Consistent.{IsConsistent};
+    ghost use Rattle.sfx_model.specs.members.Members.{Member};
+    ghost use Rattle.sfx_model.specs.members.Consistent.{IsConsistent};
     ghost use Rattle.sfx_replica.specs.Replica.{member_view};
 
     ghost Value = { Member };
@@ -41,22 +41,22 @@ impl<const U: usize> Model for Replica<U> {
 impl<const U: usize> Replica<U> {
     ghost use Rattle.sfx_knowledge.specs.Forms.{with_own};
     ghost use Rattle.sfx_knowledge.specs.Knowledge.{HasTicks, IsKnowledge};
-    ghost use Rattle.sfx_model.specs.Consistent.{IsConsistent};
-    ghost use Rattle.sfx_model.specs.Events.{Make};
-    ghost use Rattle.sfx_model.specs.Headline.{live_items};
-    ghost use Rattle.sfx_model.specs.Knowing.{most_known, names_id};
-    ghost use Rattle.sfx_model.specs.Members.{contains, shown, state_of, vector_at};
-    ghost use Rattle.sfx_model.specs.Replica.{ActsIn, RepresentsReplica};
-    ghost use Rattle.sfx_model.specs.States.{created_contents, edited_contents, next_created, next_item, next_version};
-    ghost use Rattle.sfx_model.specs.World.{WellFormed, World};
-    ghost use Rattle.sfx_model.specs.Readings.{clashing_with, unseen};
+    ghost use Rattle.sfx_model.specs.members.Consistent.{IsConsistent};
+    ghost use Rattle.sfx_model.specs.world.Events.{Make};
+    ghost use Rattle.sfx_model.specs.members.Headline.{live_items};
+    ghost use Rattle.sfx_model.specs.sessions.MemberKnowledge.{most_known, names_id};
+    ghost use Rattle.sfx_model.specs.members.Members.{contains, shown, state_of, vector_at};
+    ghost use Rattle.sfx_model.specs.members.Replica.{ActsIn, RepresentsReplica};
+    ghost use Rattle.sfx_model.specs.members.States.{created_contents, edited_contents, next_created, next_item, next_version};
+    ghost use Rattle.sfx_model.specs.world.World.{WellFormed, World};
+    ghost use Rattle.sfx_model.specs.members.Readings.{clashing_with, unseen};
     ghost use Rattle.sfx_provider.specs.Answer.{Refuses};
-    ghost use Rattle.sfx_provider.specs.Commit.{committed};
-    ghost use Rattle.sfx_provider.specs.Fits.{Fits};
+    ghost use Rattle.sfx_provider.specs.Commit.{after_commit};
+    ghost use Rattle.sfx_provider.specs.Fits.{FitsMember};
     ghost use Rattle.sfx_provider.specs.Head.{head_of};
     ghost use Rattle.sfx_replica.specs.Edits.{created, edited, new_member};
-    ghost use Rattle.sfx_model.specs.Readings.{first_from};
-    ghost use Rattle.sfx_replica.specs.Refusals.{create_refusal, full_clock, is_refusal, name_refusal, set_refusal};
+    ghost use Rattle.sfx_model.specs.members.Readings.{first_from};
+    ghost use Rattle.sfx_replica.specs.Refusals.{create_refusal, full_clock, refuses_edit, name_refusal, set_refusal};
 
     /// A replica that has made, learned and forgotten nothing.
     ///
@@ -242,7 +242,7 @@ impl<const U: usize> Replica<U> {
     /// item's, `ClockFull`, and `Memory`. Nothing has changed then.
     pub fn create(&mut self, values: Vec<Value>) -> Result<ItemId, EditFault>
         requires whole { length values.items ≡ U }
-        ensures refused { Refuses is_refusal result (create_refusal self.old values.items) }
+        ensures refused { Refuses refuses_edit result (create_refusal self.old values.items) }
         ensures made { IfOk result (λ id. id ≡ next_item self.old) }
         ensures after { OnOk result (self.new ≡ created self.old values.items) }
         ensures err { OnErr result (self.new ≡ self.old) }
@@ -266,7 +266,7 @@ impl<const U: usize> Replica<U> {
     /// unit; for unit 0 `BadName` where the value is no name, and `Clash` where it clashes with the name
     /// of another live item; `ClockFull`, and `Memory`. Nothing has changed then.
     pub fn set(&mut self, id: &ItemId, k: usize, value: Value) -> Result<Version, EditFault>
-        ensures refused { Refuses is_refusal result (set_refusal U self.old id.now k value) }
+        ensures refused { Refuses refuses_edit result (set_refusal U self.old id.now k value) }
         ensures made { IfOk result (λ version. version ≡ next_version self.old) }
         ensures after { OnOk result (self.new ≡ edited self.old id.now k value) }
         ensures err { OnErr result (self.new ≡ self.old) }
@@ -289,8 +289,8 @@ impl<const U: usize> Replica<U> {
     /// # Errors
     /// `Memory`. Nothing has changed then.
     pub fn install(&mut self, commit: &Commit<U>) -> Result<(), Memory>
-        requires fits { Fits U commit.now self.old }
-        ensures ok { OnOk result (self.new ≡ committed U commit.now self.old) }
+        requires fits { FitsMember U commit.now self.old }
+        ensures ok { OnOk result (self.new ≡ after_commit U commit.now self.old) }
         ensures err { OnErr result (self.new ≡ self.old) }
     {
         let alloc = *self.items.allocator();
@@ -308,7 +308,7 @@ impl<const U: usize> Replica<U> {
     /// The item that is created next with these values.
     fn new_item(&self, values: Vec<Value>) -> Result<Item<U>, EditFault>
         requires whole { length values.items ≡ U }
-        ensures refused { Refuses is_refusal result (create_refusal self.now values.items) }
+        ensures refused { Refuses refuses_edit result (create_refusal self.now values.items) }
         ensures value { IfOk result (λ item. item ≡ next_created self.now values.items) }
     {
         let alloc = *self.items.allocator();
@@ -326,7 +326,7 @@ impl<const U: usize> Replica<U> {
 
     /// The cell that is written next to the unit of the item.
     fn next_cell(&self, id: &ItemId, k: usize, value: Value) -> Result<Cell, EditFault>
-        ensures refused { Refuses is_refusal result
+        ensures refused { Refuses refuses_edit result
             (option_or (if nat_eq k 0 then name_refusal self.now (Some id.now) value else None)
             (full_clock self.now)) }
         ensures value { IfOk result (λ cell. cell ≡ (record { version = next_version self.now; value = value })) }
@@ -341,7 +341,7 @@ impl<const U: usize> Replica<U> {
     /// Refuses a value that may not be written to the unit of the item: for unit 0 one that may not
     /// name it.
     fn check_value(&self, id: &ItemId, k: usize, value: &Value) -> Result<(), EditFault>
-        ensures { Refuses is_refusal result
+        ensures { Refuses refuses_edit result
             (if nat_eq k 0 then name_refusal self.now (Some id.now) value.now else None) }
     {
         if k != 0 {
@@ -352,7 +352,7 @@ impl<const U: usize> Replica<U> {
 
     /// Refuses a value that may not name an item, which is the excepted one where there is one.
     fn check_name(&self, name: &[u8], except: Option<&ItemId>) -> Result<(), EditFault>
-        ensures { Refuses is_refusal result (name_refusal self.now (option_copied except.entry) name.now) }
+        ensures { Refuses refuses_edit result (name_refusal self.now (option_copied except.entry) name.now) }
     {
         let name = match Name::read(*self.items.allocator(), name) {
             Ok(name) => name,
@@ -367,7 +367,7 @@ impl<const U: usize> Replica<U> {
 
     /// The version that is made next.
     fn next_version(&self) -> Result<Version, EditFault>
-        ensures refused { Refuses is_refusal result (full_clock self.now) }
+        ensures refused { Refuses refuses_edit result (full_clock self.now) }
         ensures value { IfOk result (λ version. version ≡ next_version self.now) }
     {
         if self.clock >= MAX_TICK {

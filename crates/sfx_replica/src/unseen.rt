@@ -1,6 +1,6 @@
 //! The items of which someone does not know all.
 ghost use Rattle.std.specs.Prelude.{◌≡◌, IfOk, map, take};
-ghost use Rattle.sfx_model.specs.Readings.{is_unseen, is_unseen_at, unseen};
+ghost use Rattle.sfx_model.specs.members.Readings.{is_unseen, is_unseen_at, unseen};
 ghost use Rattle.sfx_replica.specs.Items.{is_next_unseen};
 
 use sfx_ids::{Cut, ItemId, Memory, UnitId};

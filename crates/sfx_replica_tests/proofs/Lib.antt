@@ -1,1 +1,1 @@
-mod Burying
+pub mod TombstoneCommits

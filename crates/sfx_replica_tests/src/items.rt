@@ -1,5 +1,5 @@
 //! Small lists of items in order of their ids.
-ghost use Rattle.sfx_model.specs.Members.{AreRising};
+ghost use Rattle.sfx_model.specs.members.Members.{AreAscending};
 
 use crate::fixtures::{item_id, version};
 use sfx_ids::{Cut, ItemId};
@@ -22,14 +22,14 @@ fn dead(rt: &impl Abort, ticks: Dead) -> Item<1> {
 }
 
 fn add(rt: &impl Abort, items: &mut Vec<Item<1>>, ticks: Dead)
-    requires { AreRising items.old.items }
-    ensures { AreRising items.new.items }
+    requires { AreAscending items.old.items }
+    ensures { AreAscending items.new.items }
 {
     put(items, dead(rt, ticks)).expect(rt, "room");
 }
 
 fn list(rt: &impl Abort, alloc: Global, all: &[Dead]) -> Vec<Item<1>>
-    ensures { AreRising result.items }
+    ensures { AreAscending result.items }
 {
     let mut items = Vec::new(alloc);
     for ticks in all {
@@ -75,7 +75,7 @@ struct Told {
 }
 
 fn told_of(items: &[Item<1>], id: &ItemId) -> Told
-    requires { AreRising items.now }
+    requires { AreAscending items.now }
 {
     let next = neighbours_of(items, id);
     Told {

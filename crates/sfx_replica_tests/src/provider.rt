@@ -1,6 +1,6 @@
 //! Commits to small replicas, and providers of them.
-ghost use Rattle.sfx_provider.specs.Course.{AllFit};
-ghost use Rattle.sfx_provider.specs.Fits.{Fits};
+ghost use Rattle.sfx_provider.specs.Course.{CommitsFit};
+ghost use Rattle.sfx_provider.specs.Fits.{FitsMember};
 
 use crate::fixtures::{counts, is_pair, item_id, known_to, name, pair};
 use sfx_ids::{Cut, ItemId};
@@ -13,7 +13,7 @@ use std::process::Abort;
 
 /// A commit that drops the item, which the replica holds.
 fn dropping(rt: &impl Abort, alloc: Global, replica: &Replica<2>, id: &ItemId) -> Commit<2>
-    ensures { Fits 2 result replica.now }
+    ensures { FitsMember 2 result replica.now }
 {
     replica.id();
     let Some(_) = replica.item(id) else {
@@ -26,7 +26,7 @@ fn dropping(rt: &impl Abort, alloc: Global, replica: &Replica<2>, id: &ItemId) -
 
 /// A commit that puts a tombstone in the place of the item, which the replica holds.
 fn burying(rt: &impl Abort, alloc: Global, replica: &Replica<2>, id: &ItemId) -> Commit<2>
-    ensures { Fits 2 result replica.now }
+    ensures { FitsMember 2 result replica.now }
 {
     replica.id();
     let Some(_) = replica.item(id) else {
@@ -250,7 +250,7 @@ fn walks_over_items(rt: HostRuntime) {
 
 /// A commit that changes nothing, and one that drops the item, which the replica holds.
 fn two_commits(rt: &impl Abort, alloc: Global, replica: &Replica<2>, id: &ItemId) -> Vec<Commit<2>>
-    ensures { AllFit 2 result.items replica.now }
+    ensures { CommitsFit 2 result.items replica.now }
 {
     replica.id();
     let unchanged = replica.head(alloc).expect(rt, "a head").into_commit(alloc);

@@ -2,9 +2,9 @@
 use Rattle.std.specs.Prelude.{Bool, true, false, ℕ, List, ◌++◌, codes, decimal, if◌then◌else◌}
 use Rattle.sfx_ids.specs.Text.{item_text, version_text}
 use Rattle.sfx_replica.specs.declared.edit_fault.EditFault.{EditFault}
-use Rattle.sfx_replica.specs.declared.edit_fault.EditFault.TheVariants as faults
+use Rattle.sfx_replica.specs.declared.edit_fault.EditFault.TheVariants as edit_faults
 use Rattle.sfx_model.specs.declared.session_end.SessionEnd.{SessionEnd}
-use Rattle.sfx_model.specs.declared.session_end.SessionEnd.TheVariants as ends
+use Rattle.sfx_model.specs.declared.session_end.SessionEnd.TheVariants as session_ends
 use Rattle.sfx_session.specs.declared.session_fault.SessionFault.{SessionFault}
 use Rattle.sfx_session.specs.declared.session_fault.SessionFault.TheVariants as session_faults
 use Rattle.sfx_reply.specs.declared.reason.Reason.{Reason}
@@ -19,19 +19,19 @@ with_number word number = word ++ decimal number ++ codes ")"
 abbrev pub with_numbers : List ℕ → ℕ → ℕ → List ℕ
 with_numbers word first second = word ++ decimal first ++ codes "," ++ decimal second ++ codes ")"
 
--- The text of the refusal of an edit. No line is refused for want of memory: that ends the run.
+-- The text of the refusal of an edit. No line is refused where memory ran out: that ends the run.
 abbrev pub fault_text : EditFault → List ℕ
-fault_text faults.NoItem = codes "NoItem"
-fault_text faults.Deleted = codes "Deleted"
-fault_text (faults.BadUnit k u) = with_numbers (codes "BadUnit(") k u
-fault_text (faults.BadName at) = with_number (codes "BadName(") at
-fault_text (faults.Clash item) = codes "Clash(" ++ item_text item ++ codes ")"
-fault_text (faults.ClockFull clock) = with_number (codes "ClockFull(") clock
-fault_text faults.NotDeleted = codes "NotDeleted"
-fault_text faults.Memory = codes "Memory"
+fault_text edit_faults.NoItem = codes "NoItem"
+fault_text edit_faults.Deleted = codes "Deleted"
+fault_text (edit_faults.BadUnit k u) = with_numbers (codes "BadUnit(") k u
+fault_text (edit_faults.BadName at) = with_number (codes "BadName(") at
+fault_text (edit_faults.Clash item) = codes "Clash(" ++ item_text item ++ codes ")"
+fault_text (edit_faults.ClockFull clock) = with_number (codes "ClockFull(") clock
+fault_text edit_faults.NotDeleted = codes "NotDeleted"
+fault_text edit_faults.Memory = codes "Memory"
 
 -- The text of the refusal of a session. No line is refused for a provider that failed, which those in memory
--- never do, or for want of memory.
+-- never do, or where memory ran out.
 abbrev pub session_text : SessionFault → List ℕ
 session_text session_faults.SameReplica = codes "SameReplica"
 session_text (session_faults.Ahead tick clock) = with_numbers (codes "Ahead(") tick clock
@@ -54,16 +54,16 @@ reason_text (BadCount given units) = with_numbers (codes "BadCount(") given unit
 reason_text (Edit fault) = fault_text fault
 reason_text (Session fault) = session_text fault
 
--- The refusal is want of memory.
+-- The refusal is running out of memory.
 abbrev pub is_memory : EditFault → Bool
-is_memory faults.NoItem = false
-is_memory faults.Deleted = false
-is_memory (faults.BadUnit k u) = false
-is_memory (faults.BadName at) = false
-is_memory (faults.Clash item) = false
-is_memory (faults.ClockFull clock) = false
-is_memory faults.NotDeleted = false
-is_memory faults.Memory = true
+is_memory edit_faults.NoItem = false
+is_memory edit_faults.Deleted = false
+is_memory (edit_faults.BadUnit k u) = false
+is_memory (edit_faults.BadName at) = false
+is_memory (edit_faults.Clash item) = false
+is_memory (edit_faults.ClockFull clock) = false
+is_memory edit_faults.NotDeleted = false
+is_memory edit_faults.Memory = true
 
 -- Yes or no.
 abbrev pub yes_or_no : Bool → List ℕ
@@ -82,9 +82,9 @@ reply_text (Refused reason) = codes "no " ++ reason_text reason ++ codes "\n"
 
 -- The session ended for want of ticks.
 abbrev pub is_full : SessionEnd → Bool
-is_full ends.Done = false
-is_full ends.Cut = false
-is_full (ends.Full clock) = true
+is_full session_ends.Done = false
+is_full session_ends.Cut = false
+is_full (session_ends.Full clock) = true
 
 -- The reply refuses its line, or the rest of it: so it does where a session ended for want of ticks.
 abbrev pub is_refusal : Reply → Bool

@@ -11,10 +11,11 @@ use Rattle.sfx_model.specs.declared.mark.Mark.TheVariants.{Stays, Taken, Stamped
 use Rattle.sfx_model.specs.declared.mode.Mode.{Mode}
 use Rattle.sfx_model.specs.declared.mode.Mode.TheVariants.{Normal, Recover}
 use Rattle.sfx_model.specs.declared.session_end.SessionEnd.{SessionEnd}
-use Rattle.sfx_model.specs.declared.session_end.SessionEnd.TheVariants.{Done, Cut as CutShort, Full}
-use Rattle.sfx_model.specs.Batch.{Batch}
-use Rattle.sfx_model.specs.Entry.{Entry, Other}
-use Rattle.sfx_model.specs.Session.{Step}
+use Rattle.sfx_model.specs.declared.session_end.SessionEnd.TheVariants as session_ends
+use Rattle.sfx_model.specs.declared.session_end.SessionEnd.TheVariants.{Done, Full}
+use Rattle.sfx_model.specs.sessions.Batch.{BatchData}
+use Rattle.sfx_model.specs.sessions.Entry.{EntryData, OtherData}
+use Rattle.sfx_model.specs.sessions.Session.{StepData}
 use Rattle.sfx_script.specs.Printed.{value_text}
 
 -- The word of a mode.
@@ -36,7 +37,7 @@ here_text Normal here = []
 here_text Recover here = codes " here=" ++ decimal (length here)
 
 -- The line of a batch: its mode, its range, how many changes it has, and how many items it lists.
-abbrev pub batch_text : Batch → List ℕ
+abbrev pub batch_text : BatchData → List ℕ
 batch_text b =
     codes "batch " ++ mode_text b.mode ++ range_text b.from b.to ++ changes_text (length b.changes)
     ++ here_text b.mode b.here ++ codes "\n"
@@ -74,7 +75,7 @@ abbrev pub marked_text : ItemId → List Mark → List ℕ
 marked_text item marks = codes " " ++ item_text item ++ codes " " ++ flat_map mark_text marks
 
 -- The line of an entry: its kind, its item, a letter for each unit, and the tick and the name that it got.
-abbrev pub entry_text : Entry → List ℕ
+abbrev pub entry_text : EntryData → List ℕ
 entry_text e = kind_text e.kind ++ marked_text e.item e.marks ++ tick_text e.tick ++ name_text e.name ++ codes "\n"
 
 -- Another item was deleted, or got this name.
@@ -87,15 +88,15 @@ abbrev pub changed_text : ItemId → Option (List ℕ) → List ℕ
 changed_text item name = codes "other " ++ change_text name ++ codes " " ++ item_text item
 
 -- The line of another item that an entry changed.
-abbrev pub other_text : Other → List ℕ
+abbrev pub other_text : OtherData → List ℕ
 other_text o = changed_text o.item o.name ++ tick_text (Some o.tick) ++ name_text o.name ++ codes "\n"
 
 -- The lines of an entry: its own, and those of the other items that it changed.
-abbrev pub entry_lines : Entry → List ℕ
+abbrev pub entry_lines : EntryData → List ℕ
 entry_lines e = entry_text e ++ flat_map other_text e.others
 
 -- The lines of a batch and its entries.
-abbrev pub step_lines : Step → List ℕ
+abbrev pub step_lines : StepData → List ℕ
 step_lines s = batch_text s.batch ++ flat_map entry_lines s.applied.entries
 
 -- A session ended for want of ticks, the clock standing so.
@@ -105,11 +106,11 @@ full_text clock = codes "full clock=" ++ decimal clock
 -- How a session ended.
 abbrev pub end_text : SessionEnd → List ℕ
 end_text Done = codes "done"
-end_text CutShort = codes "cut"
+end_text session_ends.Cut = codes "cut"
 end_text (Full clock) = full_text clock
 
 -- How many entries the batches had together.
-abbrev pub entry_count : List Step → ℕ
+abbrev pub entry_count : List StepData → ℕ
 entry_count steps = sum (map (λ s. length s.applied.entries) steps)
 
 -- The last line: how the session ended, and how many batches and entries it had.
@@ -118,5 +119,5 @@ last_text end batches entries =
     end_text end ++ codes " batches=" ++ decimal batches ++ codes " entries=" ++ decimal entries ++ codes "\n"
 
 -- All of a session: its batches with their entries, and how it ended.
-abbrev pub report_text : List Step → SessionEnd → List ℕ
+abbrev pub report_text : List StepData → SessionEnd → List ℕ
 report_text steps end = flat_map step_lines steps ++ last_text end (length steps) (entry_count steps)

@@ -63,7 +63,7 @@ impl Reason {
         }
     }
 
-    /// Appends the text of the reason. The one error is want of memory; a part may be appended then.
+    /// Appends the text of the reason. The one error is running out of memory; a part may be appended then.
     pub fn write(&self, out: &mut Vec<u8>) -> Result<(), Memory>
         ensures { OnOk result (out.new.items ≡ out.old.items ++ reason_text self.now) }
     {

@@ -109,7 +109,7 @@ impl Reply {
         }
     }
 
-    /// Appends the text of the reply. The one error is want of memory; a part may be appended then.
+    /// Appends the text of the reply. The one error is running out of memory; a part may be appended then.
     pub fn write(&self, out: &mut Vec<u8>) -> Result<(), Memory>
         ensures { OnOk result (out.new.items ≡ out.old.items ++ reply_text self.now) }
     {

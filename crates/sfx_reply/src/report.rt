@@ -14,7 +14,7 @@ use sfx_script::write_value;
 use sfx_session::{Report, Step};
 use std::alloc::Global;
 
-/// The text that tells what the session did. The one error is want of memory.
+/// The text that tells what the session did. The one error is running out of memory.
 pub fn told<const U: usize>(alloc: Global, report: &Report<U>) -> Result<Listing, Memory>
     ensures { IfOk result (λ text. text ≡ report_text report.now.steps report.now.end) }
 {

@@ -5,8 +5,8 @@ ghost use Rattle.sfx_ids.specs.declared.cut.Cut.TheVariants.{Start};
 ghost use Rattle.sfx_knowledge.specs.Forgotten.{fvec};
 ghost use Rattle.sfx_item.specs.Item.{state_view};
 ghost use Rattle.sfx_script.specs.Printed.{vector_text};
-ghost use Rattle.sfx_model.specs.Knowing.{laid_known};
-ghost use Rattle.sfx_reply.specs.Listing.{cell_text, item_line, listing, named_text, other_text, segment_text, state_text, unit_text};
+ghost use Rattle.sfx_model.specs.sessions.MemberKnowledge.{laid_known};
+ghost use Rattle.sfx_reply.specs.Listing.{cell_text, item_line, listing, named_text, exception_text, segment_text, state_text, unit_text};
 
 use crate::reply::Listing;
 use crate::text::{append, newline, write_number};
@@ -20,7 +20,7 @@ use sfx_script::{write_value, write_vector};
 use sfx_vector::ClockVector;
 use std::alloc::Global;
 
-/// The text that shows the replica under this name. The one error is want of memory.
+/// The text that shows the replica under this name. The one error is running out of memory.
 pub fn listing<const U: usize>(
     alloc: Global,
     name: &str,
@@ -105,7 +105,7 @@ fn write_segment<const U: usize>(
 fn write_row<const U: usize>(out: &mut Vec<u8>, row: &UnitRow<U>) -> Result<(), Memory>
     requires { 1 ≤ U }
     ensures { OnOk result (out.new.items ≡
-        out.old.items ++ vector_text row.now.base ++ flat_map other_text row.now.others) }
+        out.old.items ++ vector_text row.now.base ++ flat_map exception_text row.now.others) }
 {
     let first = row.get(UnitId::new(0).unwrap());
     write_vector(out, first)?;
@@ -132,7 +132,7 @@ fn write_unit(
 
 /// Appends the vector of a unit that differs from unit 0.
 fn write_other(out: &mut Vec<u8>, unit: usize, vector: &ClockVector) -> Result<(), Memory>
-    ensures { OnOk result (out.new.items ≡ out.old.items ++ other_text (unit, vector.now)) }
+    ensures { OnOk result (out.new.items ≡ out.old.items ++ exception_text (unit, vector.now)) }
 {
     append(out, b" unit ")?;
     write_number(out, unit as u64)?;

@@ -4,7 +4,7 @@ ghost use Rattle.std.specs.Prelude.{◌≡◌, ◌++◌, OnOk, OnErr, codes, dec
 use itoa::Buffer;
 use sfx_ids::Memory;
 
-/// Appends the bytes. The one error is want of memory; nothing is appended then.
+/// Appends the bytes. The one error is running out of memory; nothing is appended then.
 pub fn append(out: &mut Vec<u8>, bytes: &[u8]) -> Result<(), Memory>
     ensures ok { OnOk result (out.new.items ≡ out.old.items ++ bytes.now) }
     ensures err { OnErr result (out.new.items ≡ out.old.items) }

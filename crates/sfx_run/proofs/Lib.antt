@@ -1,3 +1,3 @@
-pub mod Playing
-pub mod Played
-pub mod Running
+pub mod PartlyPlayed
+pub mod PlayedScripts
+pub mod SourceLemmas

@@ -3,7 +3,7 @@ use Rattle.std.specs.Prelude.{◌≡◌, ◌⊎◌, ℕ, ◌+◌, ◌<◌, Bool,
 use Rattle.std.specs.List.{flat_map, list_any}
 use Rattle.std.specs.Borrow.{Bor}
 use Rattle.std.specs.Str.{bytes_eq}
-use Rattle.sfx_outside.specs.Sink.{Adds, AddsFront}
+use Rattle.sfx_outside.specs.Sink.{Adds, AddsPrefix}
 use Rattle.sfx_reply.specs.declared.reply.Reply.{Reply}
 use Rattle.sfx_script.specs.Script.{lines_of}
 use Rattle.sfx_reply.specs.Reply.{is_refusal, reply_text}
@@ -49,24 +49,24 @@ abbrev pub lines_left : Option (Bor (List ℕ)) → List (List ℕ)
 lines_left None = []
 lines_left (Some script) = lines_of script.now
 
--- The line was run, and a front of its reply was written, perhaps nothing and perhaps all of it.
+-- The line was run, and a prefix of its reply was written, perhaps nothing and perhaps all of it.
 abbrev pub RanInPart : State → List ℕ → Option (List ℕ) → Option (List ℕ) → State → Type 0
 RanInPart s line before now after =
-    (after ≡ (turns s (line ∷ [])).state) × AddsFront before now (line_text s line)
+    (after ≡ (turns s (line ∷ [])).state) × AddsPrefix before now (line_text s line)
 
 -- The line was not run: nothing was written, and the state is as before.
 abbrev pub NotRun : State → Option (List ℕ) → Option (List ℕ) → State → Type 0
 NotRun s before now after = (after ≡ s) × (now ≡ before)
 
 -- Playing the script from this state broke off at a line. All replies of the lines before it were written,
--- and a front of its own; the state is as this line left it.
+-- and a prefix of its own; the state is as this line left it.
 pub record BrokeOff (s : State) (script : List ℕ) (before now : Option (List ℕ)) (after : State) : Type 0 where
   pub count : ℕ
   pub line : List ℕ
   pub at : slice_get (lines_of script) count ≡ Some line
   pub between : Option (List ℕ)
   pub replies : Adds before between (replies_text (turns_to count s script).replies)
-  pub front : AddsFront between now (line_text (turns_to count s script).state line)
+  pub prefix : AddsPrefix between now (line_text (turns_to count s script).state line)
   pub state : after ≡ (turns_to (count + 1) s script).state
 
 -- Memory ran out before a line was run. All replies of the lines before it were written, and nothing else;
@@ -78,5 +78,5 @@ pub record RanOut (s : State) (script : List ℕ) (before now : Option (List ℕ
   pub state : after ≡ (turns_to count s script).state
 
 -- Memory ran out: before a line was run, or while its reply was written.
-abbrev pub WantedMemory : State → List ℕ → Option (List ℕ) → Option (List ℕ) → State → Type 0
-WantedMemory s script before now after = BrokeOff s script before now after ⊎ RanOut s script before now after
+abbrev pub RanOutOfMemory : State → List ℕ → Option (List ℕ) → Option (List ℕ) → State → Type 0
+RanOutOfMemory s script before now after = BrokeOff s script before now after ⊎ RanOut s script before now after

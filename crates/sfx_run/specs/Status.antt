@@ -4,14 +4,14 @@ use Rattle.sfx_run.specs.declared.status.Status.{Status}
 use Rattle.sfx_run.specs.declared.status.Status.TheVariants.{Done, Refused, Usage, SourceFault, SinkFault, TooLong, Memory}
 
 -- The number with which the process ends.
-abbrev pub number_of : Status → ℕ
-number_of Done = 0
-number_of Refused = 1
-number_of Usage = 2
-number_of SourceFault = 3
-number_of SinkFault = 4
-number_of TooLong = 7
-number_of Memory = 8
+abbrev pub status_number : Status → ℕ
+status_number Done = 0
+status_number Refused = 1
+status_number Usage = 2
+status_number SourceFault = 3
+status_number SinkFault = 4
+status_number TooLong = 7
+status_number Memory = 8
 
 -- Every line was answered.
 abbrev pub IsAnswered : Status → Type 0

@@ -2,9 +2,9 @@ ghost use Rattle.std.specs.Prelude.{◌≡◌, ◌<◌, ◌≤◌, ◌⊎◌, �
 ghost use Rattle.sfx_outside.specs.Fault.{HasRisen};
 ghost use Rattle.sfx_outside.specs.Sink.{Adds};
 ghost use Rattle.sfx_outside.specs.Source.{IsAtEnd, TakesAtMost};
-ghost use Rattle.sfx_model.specs.World.{World, WellFormed};
+ghost use Rattle.sfx_model.specs.world.World.{World, WellFormed};
 ghost use Rattle.sfx_community.specs.History.{AllFit, AreNotAhead, HasHappened, IsAllOf};
-ghost use Rattle.sfx_run.specs.Run.{BrokeOff, WantedMemory, has_refusal, is_play, played, played_text, played_to};
+ghost use Rattle.sfx_run.specs.Run.{BrokeOff, RanOutOfMemory, has_refusal, is_play, played, played_text, played_to};
 ghost use Rattle.sfx_community.specs.State.{State, community_of};
 ghost use Rattle.sfx_community.specs.Turn.{empty_state};
 ghost use Rattle.sfx_run.specs.Status.{HasBrokenOff, HasNotBegun, IsAnswered};
@@ -57,14 +57,14 @@ pub fn run<A: Source, B: Sink>(
     ensures fits { (IsAnswered result ⊎ (result ≡ Status.SinkFault)) →
         IfSome (A.left input.old) (λ script. length script ≤ MAX_INPUT) }
 
-    // What is written then. Where the output failed, the replies of some lines were written whole, and a front
+    // What is written then. Where the output failed, the replies of some lines were written whole, and a prefix
     // of the next one; where memory ran out, so it is, or none of the next, or nothing was written at all.
     ensures silent { HasNotBegun result → B.held out.new ≡ B.held out.old }
     ensures broken_off { result ≡ Status.SinkFault → IfSome (A.left input.old) (λ script.
         (s : State) × BrokeOff empty_state script (B.held out.old) (B.held out.new) s) }
     ensures memory { result ≡ Status.Memory → (B.held out.new ≡ B.held out.old)
         ⊎ IfSome (A.left input.old) (λ script.
-        (s : State) × WantedMemory empty_state script (B.held out.old) (B.held out.new) s) }
+        (s : State) × RanOutOfMemory empty_state script (B.held out.old) (B.held out.new) s) }
 
     // What is read.
     ensures taken { TakesAtMost (MAX_INPUT + 1) (A.left input.old) (A.left input.new) }
@@ -102,7 +102,7 @@ fn answer<B: Sink>(alloc: Global, script: &[u8], out: &mut B) -> Status
     ensures broken_off { result ≡ Status.SinkFault →
         (s : State) × BrokeOff empty_state script.now (B.held out.old) (B.held out.new) s }
     ensures memory { result ≡ Status.Memory →
-        (s : State) × WantedMemory empty_state script.now (B.held out.old) (B.held out.new) s }
+        (s : State) × RanOutOfMemory empty_state script.now (B.held out.old) (B.held out.new) s }
     ensures sink_fault { result ≡ Status.SinkFault → HasRisen (B.faults out.old) (B.faults out.new) }
 {
     let mut state = State::new();

@@ -1,10 +1,10 @@
 //! Playing a script: its lines one by one, each with its reply.
 ghost use Rattle.std.specs.Prelude.{◌≡◌, ◌<◌, ◌≤◌, ◌⊎◌, [], ◌∷◌, length, IfOk, IfSome, OnOk, OnErr, IsErrOf};
 ghost use Rattle.sfx_outside.specs.Fault.{HasRisen};
-ghost use Rattle.sfx_outside.specs.Sink.{Adds, AddsFront};
+ghost use Rattle.sfx_outside.specs.Sink.{Adds, AddsPrefix};
 ghost use Rattle.sfx_script.specs.Script.{is_passed, lines_of};
 ghost use Rattle.sfx_reply.specs.Reply.{is_refusal, reply_text};
-ghost use Rattle.sfx_run.specs.Run.{BrokeOff, NotRun, RanInPart, WantedMemory};
+ghost use Rattle.sfx_run.specs.Run.{BrokeOff, NotRun, RanInPart, RanOutOfMemory};
 ghost use Rattle.sfx_run.specs.Run.{has_refusal, line_text, lines_left, replies_text};
 ghost use Rattle.sfx_community.specs.Turn.{turns};
 
@@ -35,7 +35,7 @@ pub fn play<B: Sink>(
     ensures failed { IsErrOf result SinkFault.Failed →
         BrokeOff state.old script.now (B.held out.old) (B.held out.new) state.new }
     ensures memory { IsErrOf result SinkFault.Memory →
-        WantedMemory state.old script.now (B.held out.old) (B.held out.new) state.new }
+        RanOutOfMemory state.old script.now (B.held out.old) (B.held out.new) state.new }
     ensures faults { B.faults out.old ≤ B.faults out.new }
     ensures cause { IsErrOf result SinkFault.Failed → HasRisen (B.faults out.old) (B.faults out.new) }
 {
@@ -95,7 +95,7 @@ fn answer<B: Sink>(
 fn write_reply<B: Sink>(alloc: Global, reply: &Reply, out: &mut B) -> Result<bool, SinkFault>
     ensures text { OnOk result (Adds (B.held out.old) (B.held out.new) (reply_text reply.now)) }
     ensures refusal { IfOk result (λ refused. refused ≡ is_refusal reply.now) }
-    ensures err { OnErr result (AddsFront (B.held out.old) (B.held out.new) (reply_text reply.now)) }
+    ensures err { OnErr result (AddsPrefix (B.held out.old) (B.held out.new) (reply_text reply.now)) }
     ensures faults { B.faults out.old ≤ B.faults out.new }
     ensures cause { IsErrOf result SinkFault.Failed → HasRisen (B.faults out.old) (B.faults out.new) }
 {
@@ -106,7 +106,7 @@ fn write_reply<B: Sink>(alloc: Global, reply: &Reply, out: &mut B) -> Result<boo
     Ok(reply.is_refusal())
 }
 
-/// The text of the reply. The one error is want of memory.
+/// The text of the reply. The one error is running out of memory.
 fn text_of(alloc: Global, reply: &Reply) -> Result<Vec<u8>, Memory>
     ensures { IfOk result (λ text. text.items ≡ reply_text reply.now) }
 {

@@ -1,16 +1,16 @@
-mod Judging
-mod Leasts
-mod Lines
-mod OneReading
-mod ValueTexts
-mod Valuing
-mod VectorTexts
-mod WordTexts
-mod Failing
-mod Fronts
-mod Placing
-mod Rows
-mod Settings
-mod Wrongs
-pub mod Limits
-mod Uuids
+pub mod FirstCause
+pub mod FaultsLemmas
+pub mod LinesAreRead
+pub mod OneReading
+pub mod ValueTexts
+pub mod ValueWords
+pub mod VectorTexts
+pub mod WordTexts
+pub mod ReadingFaults
+pub mod WordPrefixes
+pub mod WordPlaces
+pub mod LineLemmas
+pub mod SettingWords
+pub mod WrongLemmas
+pub mod LimitsLemmas
+pub mod UuidNumbers

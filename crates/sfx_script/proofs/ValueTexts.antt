@@ -15,8 +15,8 @@ use Rattle.sfx_script.specs.Printed.{is_escaped, value_text}
 use Rattle.sfx_script.specs.Script.{is_blank, words_of}
 use Rattle.sfx_script.specs.Word.{is_printable, printed, value_of}
 use Rattle.sfx_script.specs.declared.printed.TheConstants.{VALUE_SET}
-use Rattle.sfx_script.proofs.Fronts.{front_whole, list_all-from}
-use Rattle.sfx_script.proofs.Valuing.{value_decoded}
+use Rattle.sfx_script.proofs.WordPrefixes.{prefix_whole, list_all-from}
+use Rattle.sfx_script.proofs.ValueWords.{value_decoded}
 
 table : agree_below (contains VALUE_SET) is_escaped 128 ≡ true
 table = refl
@@ -83,7 +83,7 @@ encoded_reads value text some plain decoded other =
           absurd (true≢false (sym value_is ∙ other))
       | inr differs ↦ differs
     ] in
-    value_decoded text some (front_whole is_printable text (plain_prints text plain)) bare_not ∙ ap (λ v. Some v) decoded
+    value_decoded text some (prefix_whole is_printable text (plain_prints text plain)) bare_not ∙ ap (λ v. Some v) decoded
 
 -- the text of a value stands for the value
 pub value_reads : (value : List ℕ) → All (λ b. b < 256) value → printed value_of (value_text value) ≡ Some value

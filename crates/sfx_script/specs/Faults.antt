@@ -1,8 +1,8 @@
 -- Where a line goes wrong.
 use Rattle.std.specs.Prelude.{◌≡◌, ℕ, ◌+◌, ◌<◌, ◌≤◌, ◌⊎◌, Bool, false, if◌then◌else◌, Option, Some, None, List, [], ◌∷◌, length, slice_index}
 use Rattle.std.specs.List.{list_any, prefix_len}
-use Rattle.sfx_ids.specs.Front.{BeginsItem, BeginsVersion, IsLongestFront}
-use Rattle.sfx_script.specs.Grammar.{Form, number, name, uuid, item, version, value, keep, clash, batch, group, cut, trace, has_form, kind_of, shape_of}
+use Rattle.sfx_ids.specs.Prefix.{BeginsItem, BeginsVersion, IsLongestPrefix}
+use Rattle.sfx_script.specs.Grammar.{Form, number, name, uuid, item, version, value, keep, clash, batch, group, cut, trace, has_form, line_kind, shape_of}
 use Rattle.sfx_script.specs.Script.{words_of}
 use Rattle.sfx_script.specs.Word.{is_printable}
 use Rattle.sfx_script.specs.declared.kind.Kind.{Kind}
@@ -42,33 +42,33 @@ abbrev pub behind : List Form → List ℕ → List Form
 behind [] word = []
 behind (form ∷ forms) word = if has_form form word then forms else behind forms word
 
--- The words with the forms that are due: the needed ones one by one, and then any of the further ones
+-- The words with the forms that are forms_due: the needed ones one by one, and then any of the further ones
 -- behind that of the word before.
-abbrev pub due : List Form → List Form → List Placed → List Due
-due needed further [] = []
-due [] further (w ∷ ws) = record { word = w; forms = further } ∷ due [] (behind further w.text) ws
-due (form ∷ needed) further (w ∷ ws) = record { word = w; forms = form ∷ [] } ∷ due needed further ws
+abbrev pub forms_due : List Form → List Form → List Placed → List Due
+forms_due needed further [] = []
+forms_due [] further (w ∷ ws) = record { word = w; forms = further } ∷ forms_due [] (behind further w.text) ws
+forms_due (form ∷ needed) further (w ∷ ws) = record { word = w; forms = form ∷ [] } ∷ forms_due needed further ws
 
 -- The kind of line that words make, by the first of them.
 abbrev pub kind_in : List Placed → Option Kind
 kind_in [] = None
-kind_in (w ∷ ws) = kind_of w.text
+kind_in (w ∷ ws) = line_kind w.text
 
 -- The words behind the first.
 abbrev pub behind_first : List Placed → List Placed
 behind_first [] = []
 behind_first (w ∷ ws) = ws
 
--- The words behind the first of a line of this kind, with the forms that are due.
+-- The words behind the first of a line of this kind, with the forms that are forms_due.
 abbrev pub due_in : Kind → List ℕ → List Due
-due_in kind line = due (shape_of kind).needed (shape_of kind).further (behind_first (places_of line))
+due_in kind line = forms_due (shape_of kind).needed (shape_of kind).further (behind_first (places_of line))
 
 -- A word that has not the form goes wrong this many bytes behind its begin: an item or a version behind
--- the longest front that begins some item's or version's text, a value behind the bytes that may stand in
+-- the longest prefix that begins some item's or version's text, a value behind the bytes that may stand in
 -- a line, and each other word at its begin.
 abbrev pub IsPlaceIn : Form → List ℕ → ℕ → Type 0
-IsPlaceIn item word n = IsLongestFront BeginsItem word n
-IsPlaceIn version word n = IsLongestFront BeginsVersion word n
+IsPlaceIn item word n = IsLongestPrefix BeginsItem word n
+IsPlaceIn version word n = IsLongestPrefix BeginsVersion word n
 IsPlaceIn value word n = n ≡ prefix_len is_printable word
 IsPlaceIn number word n = n ≡ 0
 IsPlaceIn name word n = n ≡ 0
@@ -86,7 +86,7 @@ pub record IsMisformed (form : Form) (word : Placed) (at : ℕ) : Type 0 where
   pub is_place : IsPlaceIn form word.text place
   pub here : at ≡ word.at + place
 
--- The word has none of the forms that are due, and by the first of them it goes wrong at this index.
+-- The word has none of the forms that are forms_due, and by the first of them it goes wrong at this index.
 abbrev pub HasNoForm : ℕ → List Form → Placed → Type 0
 HasNoForm at [] word = ⊥
 HasNoForm at (form ∷ forms) word = (has_one (form ∷ forms) word.text ≡ false) × IsMisformed form word at
@@ -107,11 +107,11 @@ pub data GoesWrongAt (line : List ℕ) (at : ℕ) : Type 0 where
   lacking : (kind : Kind) → kind_in (places_of line) ≡ Some kind → length (behind_first (places_of line)) < length (shape_of kind).needed → at ≡ length line → GoesWrongAt line at
 
 -- The least of the indices at which a line goes wrong.
-pub record IsFirstWrong (line : List ℕ) (at : ℕ) : Type 0 where
+pub record IsFirstWrongInLine (line : List ℕ) (at : ℕ) : Type 0 where
   pub wrong : GoesWrongAt line at
   pub least : (n : ℕ) → GoesWrongAt line n → at ≤ n
 
 -- The fault says where the line goes wrong first, or that there was no memory.
-abbrev pub IsFaultOf : List ℕ → LineFault → Type 0
-IsFaultOf line (Syntax at) = IsFirstWrong line at
-IsFaultOf line Memory = Unit {0}
+abbrev pub IsLineFault : List ℕ → LineFault → Type 0
+IsLineFault line (Syntax at) = IsFirstWrongInLine line at
+IsLineFault line Memory = Unit {0}

@@ -58,8 +58,8 @@ shape_of Knows = record { needed = name ∷ item ∷ number ∷ version ∷ []; 
 shape_of Equal = record { needed = name ∷ name ∷ []; further = [] }
 
 -- The kind of line that begins with this word.
-abbrev pub kind_of : List ℕ → Option Kind
-kind_of word =
+abbrev pub line_kind : List ℕ → Option Kind
+line_kind word =
     if bytes_eq word (codes "units") then Some Units
     else if bytes_eq word (codes "replica") then Some Replica
     else if bytes_eq word (codes "files") then Some Files

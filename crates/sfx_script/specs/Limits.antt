@@ -1,7 +1,7 @@
 -- The limits of the numbers in a line.
 use Rattle.std.specs.Prelude.{ℕ, ◌≤◌, ◌<◌, ◌^◌, IfSome}
 use Rattle.sfx_script.specs.declared.line.Line.{Line}
-use Rattle.sfx_script.specs.declared.line.Line.TheVariants.{Units, Replica, Files, Create, Set, Delete, Clean, Scan, Sync, Show, Knows, Equal}
+use Rattle.sfx_script.specs.declared.line.Line.TheVariants.{Replica, Files, Sync}
 use Rattle.sfx_script.specs.declared.options.Options.{Options}
 
 -- The number is from 1 to the most.
@@ -16,15 +16,7 @@ pub record AreWithinLimits (options : Options) : Type 0 where
 
 -- The numbers of the line are within their limits: an id has 128 bits, and options keep to theirs.
 abbrev pub IsLimited : Line → Type 0
-IsLimited (Units n) = Unit {0}
 IsLimited (Replica name id) = id < 2 ^ 128
 IsLimited (Files name id) = id < 2 ^ 128
-IsLimited (Create replica values) = Unit {0}
-IsLimited (Set replica item unit value) = Unit {0}
-IsLimited (Delete replica item) = Unit {0}
-IsLimited (Clean replica item) = Unit {0}
-IsLimited (Scan replica) = Unit {0}
 IsLimited (Sync source destination keep clash options) = AreWithinLimits options
-IsLimited (Show replica) = Unit {0}
-IsLimited (Knows replica item unit version) = Unit {0}
-IsLimited (Equal first second) = Unit {0}
+IsLimited line = Unit {0}

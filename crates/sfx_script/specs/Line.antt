@@ -6,7 +6,7 @@ use Rattle.sfx_ids.specs.declared.item_id.ItemId.{ItemId}
 use Rattle.sfx_ids.specs.declared.version.Version.{Version}
 use Rattle.sfx_model.specs.declared.keep.Keep.{Keep}
 use Rattle.sfx_model.specs.declared.clash_rule.ClashRule.{ClashRule}
-use Rattle.sfx_script.specs.Grammar.{kind_of}
+use Rattle.sfx_script.specs.Grammar.{line_kind}
 use Rattle.sfx_script.specs.Script.{words_of}
 use Rattle.sfx_script.specs.Word.{is_printable, name_of, number_of, uuid_of, item_of, version_of, value_of, keep_of, clash_of, batch_of, group_of, cut_of, trace_of}
 use Rattle.sfx_script.specs.declared.kind.Kind.{Kind}
@@ -59,5 +59,5 @@ pub record IsLine (line : List ℕ) (read : Line) : Type 0 where
   pub words : List (List ℕ)
   pub divided : words_of line ≡ first ∷ words
   pub kind : Kind
-  pub begins : kind_of first ≡ Some kind
+  pub begins : line_kind first ≡ Some kind
   pub makes : Makes kind words read

@@ -16,18 +16,18 @@ value_text [] = codes "-"
 value_text bytes = if bytes_eq bytes (codes "-") then codes "%2D" else percent_encode VALUE_SET bytes
 
 -- An entry of a vector: the replica, `=` and its tick.
-abbrev pub entry_text : ℕ × ℕ → List ℕ
-entry_text entry = replica_text entry.0 ++ 61 ∷ decimal entry.1
+abbrev pub clock_text : ℕ × ℕ → List ℕ
+clock_text entry = replica_text entry.0 ++ 61 ∷ decimal entry.1
 
 -- Entries, each behind a comma.
 abbrev pub further_text : Clocks → List ℕ
 further_text [] = []
-further_text (entry ∷ entries) = 44 ∷ entry_text entry ++ further_text entries
+further_text (entry ∷ entries) = 44 ∷ clock_text entry ++ further_text entries
 
 -- Entries with commas between them.
 abbrev pub entries_text : Clocks → List ℕ
 entries_text [] = []
-entries_text (entry ∷ entries) = entry_text entry ++ further_text entries
+entries_text (entry ∷ entries) = clock_text entry ++ further_text entries
 
 -- The text of a vector: its entries with commas between them, or `-` where it has none.
 abbrev pub vector_text : Clocks → List ℕ

@@ -15,7 +15,7 @@ use Rattle.sfx_ids.specs.Tick.{max_tick}
 use Rattle.sfx_model.specs.declared.keep.Keep.{Keep}
 use Rattle.sfx_model.specs.declared.keep.Keep.TheVariants as keeps
 use Rattle.sfx_model.specs.declared.clash_rule.ClashRule.{ClashRule}
-use Rattle.sfx_model.specs.declared.clash_rule.ClashRule.TheVariants as rules_of_clashes
+use Rattle.sfx_model.specs.declared.clash_rule.ClashRule.TheVariants as clash_rules
 
 -- The byte may stand in a line: it is a blank or a printable character of ASCII.
 abbrev pub is_printable : ℕ → Bool
@@ -106,11 +106,11 @@ keep_of word =
 -- What becomes of names that clash, behind `clash=`.
 abbrev pub clash_of : List ℕ → Option ClashRule
 clash_of word =
-    if bytes_eq word (codes "clash=source") then Some rules_of_clashes.Source
-    else if bytes_eq word (codes "clash=destination") then Some rules_of_clashes.Destination
-    else if bytes_eq word (codes "clash=rename-source") then Some rules_of_clashes.RenameSource
-    else if bytes_eq word (codes "clash=rename-destination") then Some rules_of_clashes.RenameDestination
-    else if bytes_eq word (codes "clash=skip") then Some rules_of_clashes.Skip
+    if bytes_eq word (codes "clash=source") then Some clash_rules.Source
+    else if bytes_eq word (codes "clash=destination") then Some clash_rules.Destination
+    else if bytes_eq word (codes "clash=rename-source") then Some clash_rules.RenameSource
+    else if bytes_eq word (codes "clash=rename-destination") then Some clash_rules.RenameDestination
+    else if bytes_eq word (codes "clash=skip") then Some clash_rules.Skip
     else None
 
 -- A number from 1 to the most.

@@ -18,11 +18,11 @@ pub enum Kind {
 }
 
 impl Kind {
-    ghost use Rattle.sfx_script.specs.Grammar.{kind_of};
+    ghost use Rattle.sfx_script.specs.Grammar.{line_kind};
 
     /// The kind of line that begins with the word.
     pub fn of(word: &str) -> Option<Kind>
-        ensures { result ≡ kind_of word.now }
+        ensures { result ≡ line_kind word.now }
     {
         match word {
             "units" => Some(Kind::Units),

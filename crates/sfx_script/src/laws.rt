@@ -1,6 +1,6 @@
 ghost use Rattle.std.specs.Prelude.{◌≡◌, ◌↔◌, ℕ, ◌<◌, List, [], ◌∷◌, All, Some, IsSome};
 ghost use Rattle.percent_encoding.specs.AsciiSet.{should_percent_encode};
-ghost use Rattle.sfx_script.specs.Faults.{GoesWrongAt, IsFirstWrong};
+ghost use Rattle.sfx_script.specs.Faults.{GoesWrongAt, IsFirstWrongInLine};
 ghost use Rattle.sfx_script.specs.Line.{IsLine};
 ghost use Rattle.sfx_script.specs.Reading.{line_of};
 ghost use Rattle.sfx_script.specs.Printed.{is_escaped, value_text};
@@ -16,7 +16,7 @@ pub fn lines_are_right()
     ensures rows { (line : List ℕ) (read : Line) → line_of line ≡ Some read → IsLine line read }
     ensures all { (line : List ℕ) (read : Line) → IsLine line read → line_of line ≡ Some read }
     ensures never { (line : List ℕ) (read : Line) (at : ℕ) → line_of line ≡ Some read → ¬ GoesWrongAt line at }
-    ensures first { (line : List ℕ) (at : ℕ) → (wrong_at line ≡ Some at) ↔ IsFirstWrong line at }
+    ensures first { (line : List ℕ) (at : ℕ) → (wrong_at line ≡ Some at) ↔ IsFirstWrongInLine line at }
     ensures either { (line : List ℕ) → ((at : ℕ) → ¬ GoesWrongAt line at) → IsSome (line_of line) }
 {}
 

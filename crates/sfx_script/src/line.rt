@@ -80,7 +80,7 @@ pub enum Line {
 }
 
 impl Line {
-    /// An equal line. The one error is want of memory.
+    /// An equal line. The one error is running out of memory.
     pub fn copy(&self, alloc: Global) -> Result<Self, Memory>
         ensures { IfOk result (λ copy. copy ≡ self.now) }
     {

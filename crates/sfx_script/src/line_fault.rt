@@ -26,9 +26,9 @@ impl fmt::Display for LineFault {
 impl Error for LineFault {}
 
 impl From<AllocError> for LineFault {
-    ghost use Rattle.sfx_script.specs.declared.line_fault.LineFault.TheVariants as faults;
+    ghost use Rattle.sfx_script.specs.declared.line_fault.LineFault.TheVariants as line_faults;
 
-    ghost from_gives = { λ _ fault. fault ≡ faults.Memory };
+    ghost from_gives = { λ _ fault. fault ≡ line_faults.Memory };
 
     fn from(_error: AllocError) -> Self {
         LineFault::Memory
@@ -36,9 +36,9 @@ impl From<AllocError> for LineFault {
 }
 
 impl From<Memory> for LineFault {
-    ghost use Rattle.sfx_script.specs.declared.line_fault.LineFault.TheVariants as faults;
+    ghost use Rattle.sfx_script.specs.declared.line_fault.LineFault.TheVariants as line_faults;
 
-    ghost from_gives = { λ _ fault. fault ≡ faults.Memory };
+    ghost from_gives = { λ _ fault. fault ≡ line_faults.Memory };
 
     fn from(_error: Memory) -> Self {
         LineFault::Memory
@@ -46,9 +46,9 @@ impl From<Memory> for LineFault {
 }
 
 impl<T: Drop> From<AllocFailed<T>> for LineFault {
-    ghost use Rattle.sfx_script.specs.declared.line_fault.LineFault.TheVariants as faults;
+    ghost use Rattle.sfx_script.specs.declared.line_fault.LineFault.TheVariants as line_faults;
 
-    ghost from_gives = { λ _ fault. fault ≡ faults.Memory };
+    ghost from_gives = { λ _ fault. fault ≡ line_faults.Memory };
 
     fn from(_failed: AllocFailed<T>) -> Self {
         LineFault::Memory

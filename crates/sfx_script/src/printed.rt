@@ -1,6 +1,6 @@
 //! How values and clock vectors are printed.
 ghost use Rattle.std.specs.Prelude.{◌≡◌, ◌++◌, OnOk, OnErr};
-ghost use Rattle.sfx_script.specs.Printed.{entry_text, value_text, vector_text};
+ghost use Rattle.sfx_script.specs.Printed.{clock_text, value_text, vector_text};
 
 use itoa::Buffer;
 use percent_encoding::{AsciiSet, CONTROLS, ascii_set, percent_encode};
@@ -53,7 +53,7 @@ pub fn write_vector(out: &mut Vec<u8>, v: &ClockVector) -> Result<(), Memory>
 
 /// Appends the text of an entry of a vector.
 fn write_entry(out: &mut Vec<u8>, entry: (ReplicaId, Tick)) -> Result<(), Memory>
-    ensures { OnOk result (out.new.items ≡ out.old.items ++ entry_text entry) }
+    ensures { OnOk result (out.new.items ≡ out.old.items ++ clock_text entry) }
 {
     write_replica(out, &entry.0)?;
     out.push(b'=')?;

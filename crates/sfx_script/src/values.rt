@@ -41,7 +41,7 @@ impl Values {
         self.items
     }
 
-    /// Equal values. The one error is want of memory.
+    /// Equal values. The one error is running out of memory.
     pub fn copy(&self, alloc: Global) -> Result<Self, Memory>
         ensures { IfOk result (λ copy. copy ≡ self.now) }
     {

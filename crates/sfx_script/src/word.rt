@@ -1,7 +1,7 @@
 //! What the words of a line stand for. Each reading asks first whether the bytes may stand in a line.
 ghost use Rattle.std.specs.Prelude.{◌≡◌, ◌&&◌, ◌==◌, None, Some, if◌then◌else◌, IfOk, IfErr, length, take, option_map, is_some};
 ghost use Rattle.std.specs.List.{list_all, prefix_len};
-ghost use Rattle.sfx_ids.specs.Front.{BeginsItem, BeginsVersion, IsLongestFront};
+ghost use Rattle.sfx_ids.specs.Prefix.{BeginsItem, BeginsVersion, IsLongestPrefix};
 ghost use Rattle.sfx_script.specs.Word.{clash_of, is_in_name, is_name, is_printable, item_of, keep_of, name_of, number_of, printed, setting_of, trace_of, uuid_of, version_of};
 
 use itoa::Buffer;
@@ -29,7 +29,7 @@ pub fn printable_len(word: &[u8]) -> usize
 }
 
 /// The bytes before the first that may not stand in a line.
-pub fn printable_front(word: &[u8]) -> &str
+pub fn printable_prefix(word: &[u8]) -> &str
     ensures { result.now ≡ take (prefix_len is_printable word.now) word.now }
 {
     match str::from_utf8(&word[..printable_len(word)]) {
@@ -42,9 +42,9 @@ pub fn printable_front(word: &[u8]) -> &str
 pub fn text_of(word: &[u8]) -> Option<&str>
     ensures { option_map (λ text. text.now) result ≡ printed Some word.now }
 {
-    let front = printable_front(word);
-    if front.len() == word.len() {
-        Some(front)
+    let prefix = printable_prefix(word);
+    if prefix.len() == word.len() {
+        Some(prefix)
     } else {
         None
     }
@@ -109,15 +109,15 @@ pub fn uuid_in(word: &[u8]) -> Option<ReplicaId>
 pub fn item_in(word: &[u8]) -> Result<ItemId, usize>
     ensures ok { IfOk result (λ item. printed item_of word.now ≡ Some item) }
     ensures none { IfErr result (λ _. printed item_of word.now ≡ None) }
-    ensures place { IfErr result (λ place. IsLongestFront BeginsItem word.now place) }
+    ensures place { IfErr result (λ place. IsLongestPrefix BeginsItem word.now place) }
 {
-    let front = printable_front(word);
-    match parse_item(front) {
+    let prefix = printable_prefix(word);
+    match parse_item(prefix) {
         Ok(item) => {
-            if front.len() == word.len() {
+            if prefix.len() == word.len() {
                 Ok(item)
             } else {
-                Err(front.len())
+                Err(prefix.len())
             }
         }
         Err(bad) => Err(bad.at),
@@ -128,15 +128,15 @@ pub fn item_in(word: &[u8]) -> Result<ItemId, usize>
 pub fn version_in(word: &[u8]) -> Result<Version, usize>
     ensures ok { IfOk result (λ version. printed version_of word.now ≡ Some version) }
     ensures none { IfErr result (λ _. printed version_of word.now ≡ None) }
-    ensures place { IfErr result (λ place. IsLongestFront BeginsVersion word.now place) }
+    ensures place { IfErr result (λ place. IsLongestPrefix BeginsVersion word.now place) }
 {
-    let front = printable_front(word);
-    match parse_version(front) {
+    let prefix = printable_prefix(word);
+    match parse_version(prefix) {
         Ok(version) => {
-            if front.len() == word.len() {
+            if prefix.len() == word.len() {
                 Ok(version)
             } else {
-                Err(front.len())
+                Err(prefix.len())
             }
         }
         Err(bad) => Err(bad.at),

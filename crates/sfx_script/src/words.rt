@@ -41,9 +41,9 @@ pub struct Words<'a> {
 
 impl<'a> Model for Words<'a> {
     ghost use Rattle.std.specs.Prelude.{◌≤◌, ◌+◌, length};
-    ghost use Rattle.sfx_script.specs.Reading.{WordsLeft, left_at};
+    ghost use Rattle.sfx_script.specs.Reading.{WordsData, left_at};
 
-    ghost Value = { WordsLeft };
+    ghost Value = { WordsData };
 
     ghost view = { λ w. left_at w.line.now w.at };
 

@@ -34,9 +34,9 @@ BeginBefore place [] = Unit {0}
 BeginBefore place (p ∷ ps) = (cut_lt p.0 place ≡ true) × BeginBefore place ps
 
 -- The segments are those of the places before this one, in their one form.
-abbrev pub AreFront : {A : Type 0} → List (Cut × A) → Cut → Type 0
-AreFront [] place = place ≡ Start
-AreFront (p ∷ ps) place = AreSegments (p ∷ ps) × BeginBefore place (p ∷ ps)
+abbrev pub ArePrefix : {A : Type 0} → List (Cut × A) → Cut → Type 0
+ArePrefix [] place = place ≡ Start
+ArePrefix (p ∷ ps) place = AreSegments (p ∷ ps) × BeginBefore place (p ∷ ps)
 
 -- The new segments have the value from the place on, and before it the values of the old ones.
 pub record Extends {A : Type 0} (old new : List (Cut × A)) (place : Cut) (value : A) : Type 0 where

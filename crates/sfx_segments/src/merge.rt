@@ -1,7 +1,7 @@
 ghost use Rattle.std.specs.Prelude.{◌≡◌, ◌↔◌, Some, IsTrue, IfOk, OnOk};
 ghost use Rattle.sfx_ids.specs.declared.cut.Cut.TheVariants.{Start};
 ghost use Rattle.sfx_segments.specs.Segments.{IsPlace};
-ghost use Rattle.sfx_segments.specs.Merge.{start_of, earlier, passed, last_value, AreFront, Extends, AreJoined};
+ghost use Rattle.sfx_segments.specs.Merge.{start_of, earlier, passed, last_value, ArePrefix, Extends, AreJoined};
 
 use crate::join::Join;
 use sfx_ids::{Cut, Memory, Part};
@@ -70,7 +70,7 @@ fn pass<'a, A>(value: &'a A, ahead: &'a [(Cut, A)], place: &Cut) -> (&'a A, &'a 
 
 /// Puts a value behind the segments, from the place on, unless it repeats the last.
 fn push_segment<T: Part>(items: &mut Vec<(Cut, T)>, place: Cut, value: T) -> Result<(), Memory>
-    requires front { AreFront items.old.items place }
+    requires prefix { ArePrefix items.old.items place }
     requires place { IsPlace place }
     ensures { OnOk result (Extends items.old.items items.new.items place value) }
 {

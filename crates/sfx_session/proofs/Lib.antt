@@ -1,6 +1,6 @@
-pub mod Travels
-pub mod Skipping
-pub mod Deciding
-pub mod Refusing
-pub mod Acting
-pub mod Sides
+pub mod TravelLemmas
+pub mod NoTickDrawn
+pub mod ModeTests
+pub mod RefusalsLemmas
+pub mod SessionsAct
+pub mod FaultLemmas

@@ -1,7 +1,7 @@
 -- Whom a session's fault blames, and which faults are refusals.
 use Rattle.std.specs.Prelude.{Bool, true, false}
 use Rattle.sfx_provider.specs.declared.provider_fault.ProviderFault.{ProviderFault}
-use Rattle.sfx_provider.specs.declared.provider_fault.ProviderFault.TheVariants as provider
+use Rattle.sfx_provider.specs.declared.provider_fault.ProviderFault.TheVariants as provider_faults
 use Rattle.sfx_session.specs.declared.session_fault.SessionFault.{SessionFault}
 use Rattle.sfx_session.specs.declared.session_fault.SessionFault.TheVariants.{SameReplica, Ahead, NotBuilt, Source, Destination, Memory}
 use Rattle.sfx_session.specs.declared.side.Side.{Side}
@@ -31,22 +31,22 @@ blames sides.Source fault = blames_source fault
 blames sides.Destination fault = blames_destination fault
 
 -- The session was refused, before anything changed.
-abbrev pub is_refusal : SessionFault → Bool
-is_refusal SameReplica = true
-is_refusal (Ahead tick clock) = true
-is_refusal NotBuilt = true
-is_refusal Source = false
-is_refusal Destination = false
-is_refusal Memory = false
+abbrev pub refuses_session : SessionFault → Bool
+refuses_session SameReplica = true
+refuses_session (Ahead tick clock) = true
+refuses_session NotBuilt = true
+refuses_session Source = false
+refuses_session Destination = false
+refuses_session Memory = false
 
 -- The session was refused because the source is ahead of the destination.
-abbrev pub is_ahead : SessionFault → Bool
-is_ahead SameReplica = false
-is_ahead (Ahead tick clock) = true
-is_ahead NotBuilt = false
-is_ahead Source = false
-is_ahead Destination = false
-is_ahead Memory = false
+abbrev pub source_is_ahead : SessionFault → Bool
+source_is_ahead SameReplica = false
+source_is_ahead (Ahead tick clock) = true
+source_is_ahead NotBuilt = false
+source_is_ahead Source = false
+source_is_ahead Destination = false
+source_is_ahead Memory = false
 
 -- The fault of a session whose provider on this side failed.
 abbrev pub storage_fault : Side → SessionFault
@@ -55,5 +55,5 @@ storage_fault sides.Destination = Destination
 
 -- The fault of a session whose provider on this side answered with that fault.
 abbrev pub fault_at : Side → ProviderFault → SessionFault
-fault_at side provider.Failed = storage_fault side
-fault_at side provider.Memory = Memory
+fault_at side provider_faults.Failed = storage_fault side
+fault_at side provider_faults.Memory = Memory

@@ -3,9 +3,9 @@ use Rattle.std.specs.Prelude.{ℕ, if◌then◌else◌, nat_eq, Option, Some, No
 use Rattle.std.specs.Option.{option_map, option_or}
 use Rattle.sfx_model.specs.declared.mode.Mode.{Mode}
 use Rattle.sfx_model.specs.declared.mode.Mode.TheVariants.{Normal, Recover}
-use Rattle.sfx_model.specs.Batch.{mode_of}
-use Rattle.sfx_model.specs.Knowing.{laid_known, ahead_of}
-use Rattle.sfx_model.specs.Members.{Member}
+use Rattle.sfx_model.specs.sessions.Batch.{mode_of}
+use Rattle.sfx_model.specs.sessions.MemberKnowledge.{laid_known, ahead_of}
+use Rattle.sfx_model.specs.members.Members.{Member}
 use Rattle.sfx_session.specs.declared.session_fault.SessionFault.{SessionFault}
 use Rattle.sfx_session.specs.declared.session_fault.SessionFault.TheVariants.{SameReplica, Ahead, NotBuilt}
 
@@ -24,8 +24,8 @@ not_built Normal = None
 not_built Recover = Some NotBuilt
 
 -- The session may not begin.
-abbrev pub refusal_of : ℕ → Member → Member → Option SessionFault
-refusal_of units source destination =
+abbrev pub session_refusal : ℕ → Member → Member → Option SessionFault
+session_refusal units source destination =
     option_or (same_replica source destination)
     (option_or (ahead units source destination)
     (not_built (mode_of units source.forgotten (laid_known units destination))))

@@ -2,20 +2,20 @@
 use Rattle.std.specs.Prelude.{ℕ, ◌≤◌, IfSome, List, Option}
 use Rattle.sfx_model.specs.declared.mode.Mode.{Mode}
 use Rattle.sfx_model.specs.declared.session_end.SessionEnd.{SessionEnd}
-use Rattle.sfx_model.specs.Batch.{mode_of}
-use Rattle.sfx_model.specs.Knowing.{laid_known}
-use Rattle.sfx_model.specs.Members.{Member}
-use Rattle.sfx_model.specs.Rules.{Rules}
-use Rattle.sfx_model.specs.Session.{Step, session_of}
+use Rattle.sfx_model.specs.sessions.Batch.{mode_of}
+use Rattle.sfx_model.specs.sessions.MemberKnowledge.{laid_known}
+use Rattle.sfx_model.specs.members.Members.{Member}
+use Rattle.sfx_model.specs.sessions.Rules.{RulesData}
+use Rattle.sfx_model.specs.sessions.Session.{StepData, session_of}
 
 -- A report as plain data.
 pub record ReportData : Type 0 where
   pub mode : Mode
-  pub steps : List Step
+  pub steps : List StepData
   pub end : SessionEnd
 
 -- The report of a session by these rules.
-abbrev pub report_of : ℕ → Member → Member → Rules → ℕ → Option ℕ → ReportData
+abbrev pub report_of : ℕ → Member → Member → RulesData → ℕ → Option ℕ → ReportData
 report_of units source destination rules size cut = record {
   mode = mode_of units source.forgotten (laid_known units destination);
   steps = (session_of units source destination rules size cut).course.steps;

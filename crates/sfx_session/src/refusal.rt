@@ -1,15 +1,15 @@
 ghost use Rattle.std.specs.Prelude.{◌≡◌, ◌≤◌, ◌↔◌, IfErr, IfOk, OnOk, IsErrOf};
 ghost use Rattle.sfx_model.specs.declared.mode.Mode.TheVariants.{Normal};
-ghost use Rattle.sfx_model.specs.Acting.{TakePart};
-ghost use Rattle.sfx_model.specs.Batch.{mode_of};
-ghost use Rattle.sfx_model.specs.Consistent.{IsConsistent};
-ghost use Rattle.sfx_model.specs.Knowing.{laid_known, most_known};
-ghost use Rattle.sfx_model.specs.World.{World};
+ghost use Rattle.sfx_model.specs.sessions.Acts.{TakePart};
+ghost use Rattle.sfx_model.specs.sessions.Batch.{mode_of};
+ghost use Rattle.sfx_model.specs.members.Consistent.{IsConsistent};
+ghost use Rattle.sfx_model.specs.sessions.MemberKnowledge.{laid_known, most_known};
+ghost use Rattle.sfx_model.specs.world.World.{World};
 ghost use Rattle.sfx_provider.specs.Answer.{IsNever, Refuses};
 ghost use Rattle.sfx_provider.specs.Fault.{HasCause};
 ghost use Rattle.sfx_provider.specs.Leaves.{Rests};
-ghost use Rattle.sfx_session.specs.Fault.{blames_destination, blames_source, is_ahead, is_refusal};
-ghost use Rattle.sfx_session.specs.Refusals.{refusal_of};
+ghost use Rattle.sfx_session.specs.Fault.{blames_destination, blames_source, source_is_ahead, refuses_session};
+ghost use Rattle.sfx_session.specs.Refusals.{session_refusal};
 
 use crate::SessionFault;
 use crate::heads::head_of;
@@ -30,11 +30,11 @@ pub(crate) fn refuse<const U: usize, P: Provider<U>, Q: Provider<U>>(
     ensures mode { let known = laid_known U (Q.state destination.old) in
         IfOk result (λ mode. mode ≡ mode_of U (P.state source.old).forgotten known) }
     ensures normal { IfOk result (λ mode. mode ≡ Normal) }
-    ensures refused { Refuses is_refusal result (refusal_of U (P.state source.old) (Q.state destination.old)) }
+    ensures refused { Refuses refuses_session result (session_refusal U (P.state source.old) (Q.state destination.old)) }
     ensures consistent { OnOk result
         (IsConsistent U (P.state source.old) × IsConsistent U (Q.state destination.old)) }
     ensures not_ahead { (w : World) → TakePart w U (P.state source.old) (Q.state destination.old) →
-        IsNever is_ahead result }
+        IsNever source_is_ahead result }
     ensures same { IsErrOf result SessionFault.SameReplica ↔
         ((P.state source.old).id ≡ (Q.state destination.old).id) }
     ensures source { Rests P.state P.kept P.settled P.came source.old source.new }
@@ -70,7 +70,7 @@ fn bearing<const U: usize, P: Provider<U>, Q: Provider<U>>(
         IfOk result (λ b. b.2 ≡ mode_of U (P.state source.old).forgotten known) }
     ensures consistent { OnOk result
         (IsConsistent U (P.state source.old) × IsConsistent U (Q.state destination.old)) }
-    ensures no_refusal { IsNever is_refusal result }
+    ensures no_refusal { IsNever refuses_session result }
     ensures source { Rests P.state P.kept P.settled P.came source.old source.new }
     ensures destination { Rests Q.state Q.kept Q.settled Q.came destination.old destination.new }
     ensures source_cause { HasCause blames_source (P.faults source.old) (P.faults source.new) result }

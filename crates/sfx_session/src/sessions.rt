@@ -1,20 +1,20 @@
 ghost use Rattle.std.specs.Prelude.{◌≡◌, ◌≤◌, ◌↔◌, ◌<◌, None, IfOk, OnOk, OnErr, IsErrOf, IsOkUnless};
 ghost use Rattle.sfx_apply.specs.Rules.{LeavesConflicts};
 ghost use Rattle.sfx_model.specs.declared.mode.Mode.TheVariants.{Normal};
-ghost use Rattle.sfx_model.specs.Acting.{DeedsActIn, TakePart};
-ghost use Rattle.sfx_model.specs.Batch.{batch_from};
-ghost use Rattle.sfx_model.specs.Deeds.{session_deeds};
-ghost use Rattle.sfx_model.specs.Knowing.{ahead_of, laid_known};
-ghost use Rattle.sfx_model.specs.Moments.{committed, stops};
-ghost use Rattle.sfx_model.specs.Session.{applied, applied_batch, session_of};
-ghost use Rattle.sfx_model.specs.World.{World};
+ghost use Rattle.sfx_model.specs.sessions.Acts.{DeedsActIn, TakePart};
+ghost use Rattle.sfx_model.specs.sessions.Batch.{batch_from};
+ghost use Rattle.sfx_model.specs.sessions.Deeds.{session_deeds};
+ghost use Rattle.sfx_model.specs.sessions.MemberKnowledge.{ahead_of, laid_known};
+ghost use Rattle.sfx_model.specs.sessions.Moments.{committed, stops};
+ghost use Rattle.sfx_model.specs.sessions.Session.{outcome_of, applied_data, session_of};
+ghost use Rattle.sfx_model.specs.world.World.{World};
 ghost use Rattle.sfx_outside.specs.Fault.{HasRisen};
 ghost use Rattle.sfx_provider.specs.Answer.{IsNever, OnFault, Refuses};
 ghost use Rattle.sfx_provider.specs.Fault.{HasCause};
 ghost use Rattle.sfx_provider.specs.Leaves.{Arrives, BreaksOff, Rests};
 ghost use Rattle.sfx_segments.specs.Segments.{IsPlace};
-ghost use Rattle.sfx_session.specs.Fault.{blames_destination, blames_source, is_ahead, is_refusal};
-ghost use Rattle.sfx_session.specs.Refusals.{refusal_of};
+ghost use Rattle.sfx_session.specs.Fault.{blames_destination, blames_source, source_is_ahead, refuses_session};
+ghost use Rattle.sfx_session.specs.Refusals.{session_refusal};
 ghost use Rattle.sfx_session.specs.Report.{AreLimits, report_of};
 ghost use Rattle.sfx_session.specs.Travel.{due_outcome, next_arrival, next_travel};
 ghost use Rattle.sfx_settle.specs.Rules.{rules_view};
@@ -77,10 +77,10 @@ pub fn session<const U: usize, P: Provider<U>, Q: Provider<U>, M: Merger>(
         cut ≡ None → IfOk result (λ report. report.end ≡ whole.end) }
     ensures same { IsErrOf result SessionFault.SameReplica ↔
         ((P.state source.old).id ≡ (Q.state destination.old).id) }
-    ensures refused { Refuses is_refusal result (refusal_of U (P.state source.old) (Q.state destination.old)) }
+    ensures refused { Refuses refuses_session result (session_refusal U (P.state source.old) (Q.state destination.old)) }
     ensures unchanged { let rests = Rests Q.state Q.kept Q.settled Q.came destination.old destination.new in
-        OnFault is_refusal result rests }
-    ensures complete { refusal_of U (P.state source.old) (Q.state destination.old) ≡ None →
+        OnFault refuses_session result rests }
+    ensures complete { session_refusal U (P.state source.old) (Q.state destination.old) ≡ None →
         ¬ HasRisen (P.faults source.old) (P.faults source.new) →
         ¬ HasRisen (Q.faults destination.old) (Q.faults destination.new) →
         IsOkUnless result SessionFault.Memory }
@@ -93,7 +93,7 @@ pub fn session<const U: usize, P: Provider<U>, Q: Provider<U>, M: Merger>(
         OnOk result ((w : World) → TakePart w U (P.state source.old) to →
         DeedsActIn w deeds (P.state source.old) to.id (Q.state destination.new)) }
     ensures not_ahead { (w : World) → TakePart w U (P.state source.old) (Q.state destination.old) →
-        IsNever is_ahead result }
+        IsNever source_is_ahead result }
 {
     let mode = refuse(alloc, source, destination)?;
     let mut travel = Travel::new(alloc, cut);
@@ -149,7 +149,7 @@ fn one_batch<const U: usize, P: Provider<U>, Q: Provider<U>, M: Merger>(
         (committed group o.moments) (stops group (Q.state destination.old) o.moments)) }
     ensures ahead { let from = P.state source.old in
         OnOk result (ahead_of (Q.state destination.new) (laid_known U from) from.forgotten ≡ None) }
-    ensures no_refusal { IsNever is_refusal result }
+    ensures no_refusal { IsNever refuses_session result }
     ensures source { Rests P.state P.kept P.settled P.came source.old source.new }
     ensures source_cause { HasCause blames_source (P.faults source.old) (P.faults source.new) result }
     ensures destination_cause { HasCause blames_destination (Q.faults destination.old)
@@ -162,7 +162,7 @@ fn one_batch<const U: usize, P: Provider<U>, Q: Provider<U>, M: Merger>(
 }
 
 /// The batch that is due to the destination as it is now.
-#[tactic(auto, unfolding(sfx_model::specs::Batch::batch_from))]
+#[tactic(auto, unfolding(sfx_model::specs::sessions::Batch::batch_from))]
 fn next_batch<const U: usize, P: Provider<U>, Q: Provider<U>>(
     alloc: Global,
     source: &mut P,
@@ -178,7 +178,7 @@ fn next_batch<const U: usize, P: Provider<U>, Q: Provider<U>>(
     ensures mode { IfOk result (λ b. b.mode ≡ mode) }
     ensures made_with { IfOk result (λ b. b.made_with ≡ laid_known U (P.state source.old)) }
     ensures forgotten { IfOk result (λ b. b.forgotten ≡ (P.state source.old).forgotten) }
-    ensures no_refusal { IsNever is_refusal result }
+    ensures no_refusal { IsNever refuses_session result }
     ensures source { Rests P.state P.kept P.settled P.came source.old source.new }
     ensures destination { Rests Q.state Q.kept Q.settled Q.came destination.old destination.new }
     ensures source_cause { HasCause blames_source (P.faults source.old) (P.faults source.new) result }
@@ -207,16 +207,16 @@ fn apply<const U: usize, Q: Provider<U>, M: Merger>(
     requires normal { batch.now.mode ≡ Normal }
     requires skip { LeavesConflicts (rules_view M.meaning rules.now) }
     requires ahead { ahead_of (Q.state destination.old) batch.now.made_with batch.now.forgotten ≡ None }
-    ensures applied { let o = applied U batch.now (rules_view M.meaning rules.now) budget (Q.state destination.old) in
-        IfOk result (λ a. a ≡ applied_batch o) }
-    ensures arrives { let o = applied U batch.now (rules_view M.meaning rules.now) budget (Q.state destination.old) in
+    ensures applied { let o = outcome_of U batch.now (rules_view M.meaning rules.now) budget (Q.state destination.old) in
+        IfOk result (λ a. a ≡ applied_data o) }
+    ensures arrives { let o = outcome_of U batch.now (rules_view M.meaning rules.now) budget (Q.state destination.old) in
         OnOk result (Arrives Q.state Q.kept Q.settled Q.came destination.old destination.new
         (committed group o.moments) o.member) }
-    ensures breaks_off { let o = applied U batch.now (rules_view M.meaning rules.now) budget
+    ensures breaks_off { let o = outcome_of U batch.now (rules_view M.meaning rules.now) budget
         (Q.state destination.old) in
         OnErr result (BreaksOff Q.kept Q.came Q.broke destination.old destination.new
         (committed group o.moments) (stops group (Q.state destination.old) o.moments)) }
-    ensures no_refusal { IsNever is_refusal result }
+    ensures no_refusal { IsNever refuses_session result }
     ensures spares_source { IsNever blames_source result }
     ensures cause { HasCause blames_destination (Q.faults destination.old) (Q.faults destination.new) result }
 {

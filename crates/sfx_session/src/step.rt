@@ -14,9 +14,9 @@ pub struct Step<const U: usize> {
 }
 
 impl<const U: usize> Model for Step<U> {
-    ghost use Rattle.sfx_model.specs.Session.{Step};
+    ghost use Rattle.sfx_model.specs.sessions.Session.{StepData};
 
-    ghost Value = { Step };
+    ghost Value = { StepData };
 
     ghost view = { λ s. record { batch = s.batch; applied = s.applied } };
 }

@@ -1,5 +1,5 @@
 ghost use Rattle.std.specs.Prelude.{◌≡◌, IfOk, OnOk};
-ghost use Rattle.sfx_model.specs.Session.{ending, reduced};
+ghost use Rattle.sfx_model.specs.sessions.Session.{ending, reduced};
 ghost use Rattle.sfx_session.specs.Travel.{arrival, departure, travelled};
 
 use crate::{Report, Step};

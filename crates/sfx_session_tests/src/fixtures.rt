@@ -96,7 +96,7 @@ pub fn known(rt: &impl Abort, alloc: Global, of: &mut MemoryProvider<2>) -> Know
 }
 
 /// The batch of the source that is due to a destination that knows this.
-#[tactic(auto, unfolding(sfx_model::specs::Batch::batch_from))]
+#[tactic(auto, unfolding(sfx_model::specs::sessions::Batch::batch_from))]
 pub fn due(
     rt: &impl Abort,
     alloc: Global,

@@ -1,3 +1,3 @@
-pub mod Testing
-pub mod Valued
-pub mod Marking
+pub mod UnitTests
+pub mod SettledValues
+pub mod StandardFacts

@@ -1,9 +1,9 @@
 ghost use Rattle.std.specs.Prelude.{◌≡◌, ◌≤◌, IfOk};
 ghost use Rattle.std.specs.Option.{option_map};
 ghost use Rattle.sfx_ids.specs.ItemId.{creation_of};
-ghost use Rattle.sfx_model.specs.Class.{absent_change, class_of, present_change, unit_class, whole_change};
-ghost use Rattle.sfx_model.specs.Readings.{knows_version};
-ghost use Rattle.sfx_model.specs.Units.{each_unit};
+ghost use Rattle.sfx_model.specs.sessions.Class.{absent_change, class_of, present_change, unit_class, whole_change};
+ghost use Rattle.sfx_model.specs.members.Readings.{knows_version};
+ghost use Rattle.sfx_model.specs.world.Units.{each_unit};
 ghost use Rattle.sfx_settle.specs.Class.{class_view};
 
 use crate::known::{is_forgotten_within, is_unseen, is_unseen_at, knows_version};
@@ -23,7 +23,7 @@ use std::alloc::Global;
 ///
 /// # Errors
 /// `Memory`.
-#[tactic(auto, unfolding(sfx_model::specs::Class::class_of))]
+#[tactic(auto, unfolding(sfx_model::specs::sessions::Class::class_of))]
 pub fn classify<const U: usize>(
     alloc: Global,
     change: &Item<U>,

@@ -1,5 +1,5 @@
 ghost use Rattle.std.specs.Prelude.{◌≡◌, ◌≤◌, IfOk};
-ghost use Rattle.sfx_model.specs.Clashes.{clash_draft};
+ghost use Rattle.sfx_model.specs.sessions.Clashes.{clash_draft};
 ghost use Rattle.sfx_model.specs.declared.clash_rule.ClashRule.TheVariants.{RenameSource};
 
 use crate::{ClashRule, Draft, Mark};

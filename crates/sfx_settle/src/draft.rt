@@ -1,6 +1,6 @@
 ghost use Rattle.std.specs.Prelude.{◌≡◌, IfOk};
 ghost use Rattle.std.specs.Option.{option_map};
-ghost use Rattle.sfx_model.specs.Draft.{all_marked};
+ghost use Rattle.sfx_model.specs.sessions.Draft.{all_marked};
 
 use crate::{Mark, PerUnit};
 use sfx_ids::Memory;
@@ -21,9 +21,9 @@ pub struct Draft<const U: usize> {
 
 impl<const U: usize> Model for Draft<U> {
     ghost use Rattle.std.specs.Option.{option_map};
-    ghost use Rattle.sfx_model.specs.Draft.{Draft};
+    ghost use Rattle.sfx_model.specs.sessions.Draft.{DraftData};
 
-    ghost Value = { Draft };
+    ghost Value = { DraftData };
 
     ghost view = { λ d. record { marks = d.marks; values = option_map (λ v. v.items) d.values } };
 }

@@ -1,7 +1,7 @@
 //! What is compared with knowledge.
 ghost use Rattle.std.specs.Prelude.{◌≡◌};
-ghost use Rattle.sfx_model.specs.Class.{is_forgotten_within};
-ghost use Rattle.sfx_model.specs.Readings.{is_unseen, is_unseen_at, knows_version};
+ghost use Rattle.sfx_model.specs.sessions.Class.{is_forgotten_within};
+ghost use Rattle.sfx_model.specs.members.Readings.{is_unseen, is_unseen_at, knows_version};
 
 use sfx_ids::{ItemId, UnitId, Version};
 use sfx_item::Item;

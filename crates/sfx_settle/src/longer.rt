@@ -1,5 +1,5 @@
 ghost use Rattle.std.specs.Prelude.{◌≡◌, IfOk};
-ghost use Rattle.sfx_settle.specs.Longer.{is_longer};
+ghost use Rattle.sfx_model.specs.sessions.Longer.{is_longer};
 
 use crate::Merger;
 use sfx_ids::Memory;
@@ -11,7 +11,7 @@ use std::alloc::Global;
 pub struct Longer;
 
 impl Merger for Longer {
-    ghost use Rattle.sfx_settle.specs.Longer.{longer};
+    ghost use Rattle.sfx_model.specs.sessions.Longer.{longer};
 
     ghost meaning = { λ m. longer };
 

@@ -1,6 +1,6 @@
 ghost use Rattle.std.specs.Prelude.{◌≡◌, IfOk, List, length, map, unwrap_or, slice_get};
 ghost use Rattle.std.specs.List.{list_all};
-ghost use Rattle.sfx_model.specs.Draft.{is_left, unit_mark, unit_marks, unit_value, unit_values, units_draft, value_in};
+ghost use Rattle.sfx_model.specs.sessions.Draft.{is_left, unit_mark, unit_marks, unit_value, unit_values, units_draft, value_in};
 ghost use Rattle.sfx_settle.specs.Rules.{rules_view};
 
 use crate::{Draft, Keep, Mark, Marks, Merger, Rules, UnitClass, UnitClasses};

@@ -1,6 +1,6 @@
 ghost use Rattle.std.specs.Prelude.{◌≡◌, IfOk, map};
 ghost use Rattle.std.specs.Option.{option_map, option_or};
-ghost use Rattle.sfx_model.specs.Draft.{values_of, whole_draft};
+ghost use Rattle.sfx_model.specs.sessions.Draft.{values_of, whole_draft};
 
 use crate::{Draft, Keep, Mark};
 use sfx_ids::Memory;

@@ -1,6 +1,6 @@
 ghost use Rattle.std.specs.Prelude.{◌≡◌, ℕ, ◌<◌, ◌≤◌, ◌^◌, ◌↔◌, [], length, slice_get, max, Some, IsTrue, IfOk, OnOk, OnErr};
 ghost use Rattle.sfx_vector.specs.Clocks.{AreClocks, ChangesOnly, tick_of};
-ghost use Rattle.sfx_vector.specs.Places.{place_of};
+ghost use Rattle.sfx_vector.specs.Places.{entry_place};
 
 use sfx_ids::{Memory, Part, ReplicaId, Tick, Version};
 use std::alloc::Global;
@@ -53,7 +53,7 @@ impl ClockVector {
     }
 
     /// Raises the tick of the version's replica to the version's, where that is greater. The one error
-    /// is want of memory.
+    /// is running out of memory.
     pub fn raise(&mut self, v: &Version) -> Result<(), Memory>
         ensures ok { OnOk result (ChangesOnly self.old self.new v.now.replica
             (max (tick_of self.old v.now.replica) v.now.tick)) }
@@ -135,7 +135,7 @@ impl ClockVector {
         self.entries[i]
     }
 
-    /// An equal vector. The one error is want of memory.
+    /// An equal vector. The one error is running out of memory.
     pub fn copy(&self, alloc: Global) -> Result<Self, Memory>
         ensures { IfOk result (λ copy. copy ≡ self.now) }
     {
@@ -157,7 +157,7 @@ impl Part for ClockVector {
 
 /// How many of the entries stand before the place of the replica.
 fn place_of(entries: &[(ReplicaId, Tick)], replica: &ReplicaId) -> usize
-    ensures place { result ≡ place_of entries.now replica.now }
+    ensures place { result ≡ entry_place entries.now replica.now }
     ensures fits { replica.now < 2 ^ 128 }
 {
     let number = replica.number();

@@ -1,6 +1,6 @@
 use Rattle.std.proofs.Common.{◌++◌, ◌∷◌, [], take, ap, sym, ◌∙◌}
 use Rattle.std.proofs.lemmas.List.{take_all, take_more}
-use Rattle.sfx_provider.proofs.Exits.{if_ok_never}
+use Rattle.sfx_provider.proofs.AnswerLemmas.{if_ok_never}
 use Rattle.sfx_apply.proofs.applied.copied_entries.Goals as goal
 
 pub loop-entry-preserved : goal.loop-entry-preserved

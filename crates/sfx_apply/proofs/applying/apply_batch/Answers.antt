@@ -1,16 +1,16 @@
 use Rattle.std.proofs.Common.{◌≡◌, ◌∙◌, ap, inl, le_trans, refl}
 use Rattle.std.proofs.lemmas.Result.{err_from_is_err_and}
-use Rattle.sfx_model.specs.Session.{Outcome, applied, applied_batch}
-use Rattle.sfx_model.proofs.Orderly.{orderly}
+use Rattle.sfx_model.specs.sessions.Session.{Outcome, outcome_of, applied_data}
+use Rattle.sfx_model.proofs.sessions.ConsistentIsOrderly.{orderly}
 use Rattle.sfx_provider.specs.declared.provider_fault.ProviderFault.TheVariants.{Failed, Memory}
 use Rattle.sfx_provider.specs.Fault.{blames_storage}
-use Rattle.sfx_provider.proofs.Causes.{cause_later}
+use Rattle.sfx_provider.proofs.FaultLemmas.{cause_later}
 use Rattle.sfx_provider.proofs.LeavesLemmas.{breaks_still}
-use Rattle.sfx_provider.proofs.Exits.{if_ok_never, ok_never, on_err_always}
+use Rattle.sfx_provider.proofs.AnswerLemmas.{if_ok_never, ok_never, on_err_always}
 use Rattle.sfx_settle.specs.Rules.{rules_view}
-use Rattle.sfx_apply.proofs.Bringing.{brought_acts, told_not_ahead}
-use Rattle.sfx_apply.proofs.Exits.{some_never}
-use Rattle.sfx_apply.proofs.Looping.{batch_arrives, batch_breaks, same_outcome}
+use Rattle.sfx_apply.proofs.BatchesAct.{brought_acts, told_not_ahead}
+use Rattle.sfx_apply.proofs.FaultLemmas.{some_never}
+use Rattle.sfx_apply.proofs.TurnsLemmas.{batch_arrives, batch_breaks, same_outcome}
 use Rattle.sfx_apply.proofs.applying.apply_batch.Goals as goal
 
 pub returns-in_err-work-clause-not_ahead : goal.returns-in_err-work-clause-not_ahead
@@ -26,7 +26,7 @@ returns-in-Ok-clause-acts g c =
     let m = p.state c.args.provider.now in
     let same = same_outcome g.row.U c.args.batch.now rules c.in_ok-work.work.budget c.args.budget (p.state c.begin.new.provider) m
     c.in_ok-work.ensures.rests.same c.in_ok-work.ensures.budget in
-    let is : p.state c.apply_changes.new.provider ≡ (applied g.row.U c.args.batch.now rules c.args.budget m).member =
+    let is : p.state c.apply_changes.new.provider ≡ (outcome_of g.row.U c.args.batch.now rules c.args.budget m).member =
     c.in-Ok.ensures.arrives.at ∙ ap (λ (o : Outcome). o.member) same in
     λ w source brings.
     brought_acts w g.row.U source m (p.state c.apply_changes.new.provider) c.args.batch.now rules c.args.budget (orderly g.row.U m c.keeps.ensures.consistent) is brings
@@ -96,7 +96,7 @@ returns-in-Ok-clause-report g c =
     let p = g.P.Provider in
     let rules = rules_view g.M.Merger.meaning c.args.rules.now in
     c.in-Ok.ensures.report
-    ∙ ap applied_batch
+    ∙ ap applied_data
     (same_outcome g.row.U c.args.batch.now rules c.in_ok-work.work.budget c.args.budget (p.state c.begin.new.provider) (p.state c.args.provider.now)
     c.in_ok-work.ensures.rests.same c.in_ok-work.ensures.budget)
 

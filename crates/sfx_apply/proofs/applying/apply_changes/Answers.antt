@@ -1,9 +1,9 @@
 use Rattle.std.proofs.Common.{inl, refl, le_refl, ◌∙◌}
 use Rattle.sfx_provider.specs.Fault.{blames_storage}
-use Rattle.sfx_provider.proofs.Causes.{cause_handed}
+use Rattle.sfx_provider.proofs.FaultLemmas.{cause_handed}
 use Rattle.sfx_provider.proofs.LeavesLemmas.{breaks_still, rests_self}
-use Rattle.sfx_provider.proofs.Exits.{if_ok_never, ok_never, on_err_always}
-use Rattle.sfx_apply.proofs.Exits.{cause_memory}
+use Rattle.sfx_provider.proofs.AnswerLemmas.{if_ok_never, ok_never, on_err_always}
+use Rattle.sfx_apply.proofs.FaultLemmas.{cause_memory}
 use Rattle.sfx_apply.proofs.applying.apply_changes.Goals as goal
 
 pub returns-in_err-turns : goal.returns-in_err-turns

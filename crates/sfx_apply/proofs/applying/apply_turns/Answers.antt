@@ -1,10 +1,10 @@
 use Rattle.std.proofs.Common.{lit<, arith}
-use Rattle.sfx_provider.proofs.Exits.{on_err_always}
+use Rattle.sfx_provider.proofs.AnswerLemmas.{on_err_always}
 use Rattle.sfx_settle.specs.Rules.{rules_view}
 use Rattle.sfx_apply.specs.Turns.{seen_views}
-use Rattle.sfx_apply.proofs.Laying.{range_lays}
-use Rattle.sfx_apply.proofs.Looping.{at_range, ends_arrive, loop_begun, loop_breaks, loop_off, loop_on, range_breaks, range_end, turn_at, turns_normal}
-use Rattle.sfx_apply.proofs.Skipping.{at_turn}
+use Rattle.sfx_apply.proofs.LaidCommits.{range_lays}
+use Rattle.sfx_apply.proofs.TurnsLemmas.{at_range, ends_arrive, loop_begun, loop_breaks, loop_off, loop_on, range_breaks, range_end, turn_at, turns_normal}
+use Rattle.sfx_apply.proofs.SkippedChanges.{at_turn}
 use Rattle.sfx_apply.proofs.applying.apply_turns.Goals as goal
 
 pub changes-init : goal.changes-init

@@ -1,8 +1,8 @@
 use Rattle.std.proofs.Common.{◌≤◌, drop}
-use Rattle.sfx_model.specs.Session.{applied}
+use Rattle.sfx_model.specs.sessions.Session.{outcome_of}
 use Rattle.sfx_settle.specs.Rules.{rules_view}
 use Rattle.sfx_apply.specs.Turns.{seen_views}
-use Rattle.sfx_apply.proofs.Standing.{Arrived, Stands}
+use Rattle.sfx_apply.proofs.BatchProgress.{Arrived, Stands}
 use Rattle.sfx_apply.proofs.applying.apply_turns.Given as goal
 
 -- The work stands between the state at the beginning and what comes of the batch, and the provider came by
@@ -14,7 +14,7 @@ invariant-changes g l =
     let first = p.state l.fn.provider in record {
       stands :
           Stands (Arrived p.state p.kept p.settled p.came l.fn.provider l.provider first) g.row.U l.batch rules l.group
-          (applied g.row.U l.batch rules l.fn.work.budget first) (p.state l.provider) l.work (drop l.index (seen_views l.turns));
+          (outcome_of g.row.U l.batch rules l.fn.work.budget first) (p.state l.provider) l.work (drop l.index (seen_views l.turns));
       settled : p.settled l.provider;
       faults : p.faults l.fn.provider ≤ p.faults l.provider;
     }

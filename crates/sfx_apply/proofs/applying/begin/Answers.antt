@@ -1,14 +1,14 @@
 use Rattle.std.proofs.Common.{ℕ, Some, ap, refl, sym, ◌∙◌}
 use Rattle.std.specs.Option.{option_map}
 use Rattle.std.proofs.lemmas.Result.{err_from_is_err_and}
-use Rattle.sfx_model.specs.Batch.{Batch}
+use Rattle.sfx_model.specs.sessions.Batch.{BatchData}
 use Rattle.sfx_provider.specs.Head.{HeadData}
-use Rattle.sfx_provider.proofs.Exits.{if_ok_never, ok_never}
+use Rattle.sfx_provider.proofs.AnswerLemmas.{if_ok_never, ok_never}
 use Rattle.sfx_apply.specs.declared.apply_fault.ApplyFault.TheVariants.{Ahead}
-use Rattle.sfx_apply.specs.Fault.{refusal_of}
-use Rattle.sfx_apply.proofs.Bringing.{refuses_other}
-use Rattle.sfx_apply.proofs.Fitting.{head_waits}
-use Rattle.sfx_apply.proofs.Greatest.{before_tick, behind_clock, tick_found}
+use Rattle.sfx_apply.specs.Fault.{batch_refusal}
+use Rattle.sfx_apply.proofs.BatchesAct.{refuses_other}
+use Rattle.sfx_apply.proofs.WaitingCommits.{head_waits}
+use Rattle.sfx_apply.proofs.GreatestTicks.{before_tick, behind_clock, tick_found}
 use Rattle.sfx_apply.proofs.applying.begin.Goals as goal
 
 pub returns-in_err-head : goal.returns-in_err-head
@@ -24,7 +24,7 @@ returns-in_err-head g c =
       budget = if_ok_never _ _ r is;
       waits = if_ok_never _ _ r is;
       no_more = ok_never _ _ r is;
-      ahead = rw (exit.1, exit.2) (refuses_other (refusal_of m b) _ failed.not_ahead);
+      ahead = rw (exit.1, exit.2) (refuses_other (batch_refusal m b) _ failed.not_ahead);
       rests = failed.rests;
       cause = rw (exit.1, exit.2) failed.cause;
     }
@@ -36,7 +36,7 @@ returns-then-tick-clock-clause-ahead g c =
     let clock = ap (λ (h : HeadData). h.clock) c.head.view_is in
     let tick = tick_found g.row.U c.head.inside.id c.most_known-tick.result c.batch.inside.made_with c.batch.inside.forgotten m b c.in_ok-head.head
     c.in_ok-head.ensures.value (ap (λ (h : HeadData). h.id) c.head.view_is)
-    (ap (λ (x : Batch). x.made_with) c.batch.view_is) (ap (λ (x : Batch). x.forgotten) c.batch.view_is) c.most_known-tick.ensures in
+    (ap (λ (x : BatchData). x.made_with) c.batch.view_is) (ap (λ (x : BatchData). x.forgotten) c.batch.view_is) c.most_known-tick.ensures in
     let time = clock ∙ ap (λ (h : HeadData). h.clock) c.in_ok-head.ensures.value in
     ap (option_map (λ (t : ℕ). Ahead t m.clock))
     (before_tick g.row.U c.head.inside.clock c.most_known-tick.result m b c.in_ok-head.head c.in_ok-head.ensures.value clock tick c.if-tick-clock.true)
@@ -55,7 +55,7 @@ returns-clause-no_more g c =
     let b = c.args.batch.now in
     let tick = tick_found g.row.U c.head.inside.id c.most_known-tick.result c.batch.inside.made_with c.batch.inside.forgotten m b c.in_ok-head.head
     c.in_ok-head.ensures.value (ap (λ (h : HeadData). h.id) c.head.view_is)
-    (ap (λ (x : Batch). x.made_with) c.batch.view_is) (ap (λ (x : Batch). x.forgotten) c.batch.view_is) c.most_known-tick.ensures in
+    (ap (λ (x : BatchData). x.made_with) c.batch.view_is) (ap (λ (x : BatchData). x.forgotten) c.batch.view_is) c.most_known-tick.ensures in
     behind_clock g.row.U c.head.inside.clock c.most_known-tick.result m (p.state c.head_of.new.provider) b c.in_ok-head.head
     c.keeps.ensures.batch c.in_ok-head.ensures.value c.in_ok-head.ensures.rests.same (ap (λ (h : HeadData). h.clock) c.head.view_is) tick c.if-tick-clock.false
 

@@ -1,9 +1,9 @@
 use Rattle.std.proofs.Common.{ap}
 use Rattle.sfx_provider.specs.Fault.{blames_storage}
-use Rattle.sfx_provider.proofs.Causes.{cause_handed}
-use Rattle.sfx_provider.proofs.Exits.{ok_never, on_err_always}
+use Rattle.sfx_provider.proofs.FaultLemmas.{cause_handed}
+use Rattle.sfx_provider.proofs.AnswerLemmas.{ok_never, on_err_always}
 use Rattle.sfx_apply.specs.Turns.{WorkData}
-use Rattle.sfx_apply.proofs.Standing.{commit_breaks}
+use Rattle.sfx_apply.proofs.BatchProgress.{commit_breaks}
 use Rattle.sfx_apply.proofs.committing.commit_if.Goals as goal
 
 pub returns-in_err-commit : goal.returns-in_err-commit

@@ -1,5 +1,5 @@
 use Rattle.std.proofs.Common.{◌∙◌, ap, max}
-use Rattle.sfx_model.proofs.Most.{most_known_is}
+use Rattle.sfx_model.proofs.sessions.NoneIsAhead.{most_known_is}
 use Rattle.sfx_apply.proofs.known_most.most_known.Goals as goal
 
 pub returns : goal.returns

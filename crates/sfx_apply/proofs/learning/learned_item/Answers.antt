@@ -1,5 +1,5 @@
 use Rattle.sfx_ids.specs.declared.cut.Cut.TheVariants.{After, At}
-use Rattle.sfx_model.specs.Entry.{left_from}
+use Rattle.sfx_model.specs.sessions.Entry.{left_from}
 use Rattle.sfx_apply.proofs.LearnedForms.{learned_ok}
 use Rattle.sfx_apply.proofs.learning.learned_item.Goals as goal
 

@@ -1,4 +1,4 @@
-use Rattle.sfx_model.specs.Session.{lefts}
+use Rattle.sfx_model.specs.sessions.Session.{lefts}
 use Rattle.sfx_apply.proofs.LearnedForms.{learned_ok}
 use Rattle.sfx_apply.proofs.learning.learned_range.Goals as goal
 

@@ -1,8 +1,8 @@
 use Rattle.std.proofs.Common.{◌||◌, List, ap, ◌∙◌}
 use Rattle.sfx_knowledge.specs.Skips.{is_skipped}
 use Rattle.sfx_model.specs.declared.mark.Mark.{Mark}
-use Rattle.sfx_model.specs.Entry.{left_from}
-use Rattle.sfx_apply.proofs.LeftOut.{added_all}
+use Rattle.sfx_model.specs.sessions.Entry.{left_from}
+use Rattle.sfx_apply.proofs.LeftUnits.{added_all}
 use Rattle.sfx_apply.proofs.marking.add_left.Goals as goal
 
 pub returns : goal.returns

@@ -1,7 +1,7 @@
 use Rattle.std.proofs.Common.{◌≡◌, ℕ, ◌||◌, drop}
 use Rattle.sfx_ids.specs.declared.item_id.ItemId.{ItemId}
 use Rattle.sfx_knowledge.specs.Skips.{is_skipped}
-use Rattle.sfx_model.specs.Entry.{left_from}
+use Rattle.sfx_model.specs.sessions.Entry.{left_from}
 use Rattle.sfx_apply.proofs.marking.add_left.Given as goal
 
 -- the units so far and those that are left are all

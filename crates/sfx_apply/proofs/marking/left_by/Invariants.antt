@@ -1,7 +1,7 @@
 use Rattle.std.proofs.Common.{◌≡◌, ℕ, ◌||◌, drop}
 use Rattle.sfx_ids.specs.declared.item_id.ItemId.{ItemId}
 use Rattle.sfx_knowledge.specs.Skips.{is_skipped}
-use Rattle.sfx_model.specs.Session.{lefts}
+use Rattle.sfx_model.specs.sessions.Session.{lefts}
 use Rattle.sfx_apply.proofs.marking.left_by.Given as goal
 
 -- the units so far and those of the entries that are left are all

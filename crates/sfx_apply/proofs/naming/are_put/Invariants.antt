@@ -1,6 +1,6 @@
 use Rattle.std.proofs.Common.{◌≡◌, is_some, drop}
 use Rattle.std.specs.List.{list_all}
-use Rattle.sfx_model.specs.Members.{state_of}
+use Rattle.sfx_model.specs.members.Members.{state_of}
 use Rattle.sfx_apply.proofs.naming.are_put.Given as goal
 
 -- the ids that are left give the answer

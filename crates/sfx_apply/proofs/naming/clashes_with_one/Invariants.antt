@@ -1,6 +1,6 @@
 use Rattle.std.proofs.Common.{◌≡◌, Some, drop}
 use Rattle.std.specs.List.{list_any}
-use Rattle.sfx_model.specs.Readings.{is_in_the_way}
+use Rattle.sfx_model.specs.members.Readings.{is_in_the_way}
 use Rattle.sfx_apply.proofs.naming.clashes_with_one.Given as goal
 
 -- the items that are left give the answer

@@ -2,8 +2,8 @@ use Rattle.std.proofs.Common.{◌≡◌, ℕ, List, Option, Some, None, Err, sli
 use Rattle.std.specs.Option.{option_and_then}
 use Rattle.sfx_item.specs.Name.{IsName}
 use Rattle.sfx_item.specs.Decided.{name_fault}
-use Rattle.sfx_item.proofs.Decisions.{name_decided}
-use Rattle.sfx_model.specs.Clashes.{drafted_name}
+use Rattle.sfx_item.proofs.NamesAreDecided.{name_decided}
+use Rattle.sfx_model.specs.sessions.Clashes.{drafted_name}
 use Rattle.sfx_apply.proofs.naming.drafted_name.Goals as goal
 
 pub unreachable-requires : goal.unreachable-requires

@@ -1,6 +1,6 @@
 use Rattle.std.proofs.Common.{◌≡◌, ◌++◌, not, drop}
 use Rattle.std.specs.List.{filter}
-use Rattle.sfx_model.specs.Session.{is_live_state}
+use Rattle.sfx_model.specs.sessions.Session.{is_live_state}
 use Rattle.sfx_apply.specs.Turns.{seen_views}
 use Rattle.sfx_apply.proofs.ordering.add_dead.Given as goal
 

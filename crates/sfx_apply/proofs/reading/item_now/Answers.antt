@@ -2,9 +2,9 @@ use Rattle.std.proofs.Common.{◌≡◌, Option, Some, ap, ◌∙◌}
 use Rattle.std.proofs.lemmas.Result.{IfOk-weaker}
 use Rattle.std.specs.Option.{option_map}
 use Rattle.sfx_item.specs.declared.item.Item.{Item}
-use Rattle.sfx_model.specs.Members.{state_of}
-use Rattle.sfx_model.specs.Putting.{drop_all, put_all}
-use Rattle.sfx_apply.proofs.Items.{none_waits_there, there_waits}
+use Rattle.sfx_model.specs.members.Members.{state_of}
+use Rattle.sfx_model.specs.members.ItemLists.{drop_all, put_all}
+use Rattle.sfx_apply.proofs.ItemLookups.{none_waits_there, there_waits}
 use Rattle.sfx_apply.proofs.reading.item_now.Goals as goal
 
 pub returns-in_ok-copy-in-Some-clause-value : goal.returns-in_ok-copy-in-Some-clause-value

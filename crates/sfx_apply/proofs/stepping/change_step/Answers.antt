@@ -1,11 +1,11 @@
 use Rattle.std.proofs.Common.{inl, refl, le_trans}
-use Rattle.sfx_provider.proofs.Exits.{if_ok_never, ok_never, on_err_always}
+use Rattle.sfx_provider.proofs.AnswerLemmas.{if_ok_never, ok_never, on_err_always}
 use Rattle.sfx_settle.specs.Rules.{rules_view}
 use Rattle.sfx_apply.specs.Turns.{due_after, end_before, turned}
 use Rattle.sfx_provider.specs.Fault.{blames_storage}
-use Rattle.sfx_provider.proofs.Causes.{cause_handed, cause_later}
+use Rattle.sfx_provider.proofs.FaultLemmas.{cause_handed, cause_later}
 use Rattle.sfx_provider.proofs.LeavesLemmas.{breaks_still}
-use Rattle.sfx_apply.proofs.Standing.{same_due, step_arrives, step_breaks, step_work}
+use Rattle.sfx_apply.proofs.BatchProgress.{same_due, step_arrives, step_breaks, step_work}
 use Rattle.sfx_apply.proofs.stepping.change_step.Goals as goal
 
 pub returns-in_err-end : goal.returns-in_err-end

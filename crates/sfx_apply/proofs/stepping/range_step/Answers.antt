@@ -1,12 +1,12 @@
 use Rattle.std.proofs.Common.{◌∷◌, [], OnErr, OnOk, inl, lit<, refl, ap, sym, subst, ◌∙◌, le_refl}
-use Rattle.sfx_model.specs.Session.{lefts}
+use Rattle.sfx_model.specs.sessions.Session.{lefts}
 use Rattle.sfx_provider.specs.Leaves.{Arrives, BreaksOff}
 use Rattle.sfx_provider.proofs.LeavesLemmas.{breaks_still, rests_self}
-use Rattle.sfx_provider.proofs.Exits.{ok_never, ok_then, on_err_always}
+use Rattle.sfx_provider.proofs.AnswerLemmas.{ok_never, ok_then, on_err_always}
 use Rattle.sfx_apply.specs.Turns.{WorkData, destination}
 use Rattle.sfx_apply.specs.Work.{Waits}
-use Rattle.sfx_apply.proofs.Exits.{cause_memory}
-use Rattle.sfx_apply.proofs.Fitting.{range_waits}
+use Rattle.sfx_apply.proofs.FaultLemmas.{cause_memory}
+use Rattle.sfx_apply.proofs.WaitingCommits.{range_waits}
 use Rattle.sfx_apply.proofs.stepping.range_step.Goals as goal
 
 pub commit_if-requires : goal.commit_if-requires

@@ -1,7 +1,7 @@
 use Rattle.std.proofs.Common.{◌≡◌, if◌then◌else◌}
 use Rattle.sfx_model.specs.declared.mark.Mark.TheVariants.{Stays}
-use Rattle.sfx_model.specs.Entry.{is_taken, no_cell}
-use Rattle.sfx_model.specs.Units.{at_unit, each_unit}
+use Rattle.sfx_model.specs.sessions.Entry.{is_taken, no_cell}
+use Rattle.sfx_model.specs.world.Units.{at_unit, each_unit}
 use Rattle.sfx_apply.proofs.taking.taken_cells.Given as goal
 
 abbrev pub invariant-loop-index : goal.invariant-loop-index

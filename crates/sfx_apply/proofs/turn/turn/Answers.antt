@@ -1,15 +1,15 @@
 use Rattle.std.proofs.Common.{ap, le_refl, le_trans, sym, ◌∙◌}
-use Rattle.sfx_item.specs.Item.{MemberItem}
-use Rattle.sfx_model.specs.Draft.{Draft}
-use Rattle.sfx_model.specs.Members.{state_of}
-use Rattle.sfx_provider.proofs.Exits.{if_ok_never, ok_never}
+use Rattle.sfx_item.specs.Item.{ItemData}
+use Rattle.sfx_model.specs.sessions.Draft.{DraftData}
+use Rattle.sfx_model.specs.members.Members.{state_of}
+use Rattle.sfx_provider.proofs.AnswerLemmas.{if_ok_never, ok_never}
 use Rattle.sfx_settle.specs.Rules.{rules_view}
 use Rattle.sfx_apply.specs.Turns.{destination}
-use Rattle.sfx_apply.proofs.Entering.{read_turn, spent_turn}
+use Rattle.sfx_apply.proofs.TurnPlans.{read_turn, spent_turn}
 use Rattle.sfx_provider.specs.Fault.{blames_storage}
-use Rattle.sfx_provider.proofs.Causes.{cause_handed, cause_later}
+use Rattle.sfx_provider.proofs.FaultLemmas.{cause_handed, cause_later}
 use Rattle.sfx_provider.proofs.LeavesLemmas.{rests_on, rests_self}
-use Rattle.sfx_apply.proofs.Exits.{cause_memory}
+use Rattle.sfx_apply.proofs.FaultLemmas.{cause_memory}
 use Rattle.sfx_apply.proofs.turn.turn.Goals as goal
 
 pub returns-then-is_spent : goal.returns-then-is_spent
@@ -79,12 +79,12 @@ returns g c =
     let read = c.in_ok-local.ensures in
     let made = c.in_ok-draft.ensures in
     let added = c.in_ok-add.ensures in
-    let local = read.value ∙ ap (λ (x : MemberItem). state_of (destination g.row.U c.args.work.now (p.state now)).items x.id) c.change.view_is in
+    let local = read.value ∙ ap (λ (x : ItemData). state_of (destination g.row.U c.args.work.now (p.state now)).items x.id) c.change.view_is in
     let rules = rules_view g.M.Merger.meaning c.args.rules.now in
     let taken = read_turn c.args.batch.now rules c.args.change.now c.args.work.now c.add.new.self (p.state now)
     (p.state c.item_now.new.provider) c.as_ref-2.result c.in_ok-local.local c.in_ok-draft.draft c.draft.inside.marks
     c.keeps-2.ensures.consistent c.requires.waits c.keeps.ensures.batch c.requires.skip c.requires.no_more c.requires.sent (sym c.is_spent.ensures ∙ c.if-is_spent.false)
-    c.as_ref-2.ensures.value local read.rests.same (ap (λ (d : Draft). d.marks) c.draft.view_is) made.value
+    c.as_ref-2.ensures.value local read.rests.same (ap (λ (d : DraftData). d.marks) c.draft.view_is) made.value
     added.pending added.entries added.budget in record {
       value = taken.0;
       work = taken.1;

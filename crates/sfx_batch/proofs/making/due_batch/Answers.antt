@@ -1,5 +1,5 @@
 use Rattle.std.proofs.Common.{◌∙◌}
-use Rattle.sfx_batch.proofs.Due.{right_batch}
+use Rattle.sfx_batch.proofs.DueBatches.{right_batch}
 use Rattle.sfx_batch.proofs.making.due_batch.Goals as goal
 use Rattle.sfx_provider.specs.Head.{HeadData}
 

@@ -1,7 +1,7 @@
 use Rattle.std.proofs.Common.{◌∙◌, arith}
-use Rattle.sfx_batch.proofs.Taking.{end_taken, first_taken}
+use Rattle.sfx_batch.proofs.FirstItems.{end_taken, first_taken}
 use Rattle.sfx_batch.proofs.making.due_changes.Goals as goal
-use Rattle.sfx_model.specs.Readings.{unseen}
+use Rattle.sfx_model.specs.members.Readings.{unseen}
 
 pub returns-clause-changes : goal.returns-clause-changes
 returns-clause-changes g c =

@@ -1,7 +1,7 @@
 use Rattle.std.proofs.Common.{◌≡◌, ◌≤◌, ◌++◌, length}
 use Rattle.sfx_batch.proofs.making.ids_in.Given as goal
-use Rattle.sfx_model.specs.Batch.{ids_in}
-use Rattle.sfx_model.specs.Readings.{items_from}
+use Rattle.sfx_model.specs.sessions.Batch.{ids_in}
+use Rattle.sfx_model.specs.members.Readings.{items_from}
 use Rattle.sfx_provider.specs.Leaves.{Rests}
 
 -- The ids so far and those that are left are all of the range.

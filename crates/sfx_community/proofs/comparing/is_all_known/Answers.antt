@@ -1,4 +1,4 @@
-use Rattle.sfx_community.proofs.Compared.{compared_knowledge}
+use Rattle.sfx_community.proofs.SamenessLemmas.{compared_knowledge}
 use Rattle.sfx_community.proofs.comparing.is_all_known.Goals as goal
 
 pub returns : goal.returns

@@ -1,7 +1,7 @@
 use Rattle.std.proofs.Common.{◌≡◌, IfOk, subst}
 use Rattle.sfx_knowledge.specs.Knowledge.{Known}
-use Rattle.sfx_community.specs.Comparing.{same_segments}
-use Rattle.sfx_model.specs.Knowing.{laid_known}
+use Rattle.sfx_community.specs.Sameness.{same_segments}
+use Rattle.sfx_model.specs.sessions.MemberKnowledge.{laid_known}
 use Rattle.sfx_community.proofs.comparing.know_same.Goals as goal
 
 pub returns : goal.returns

@@ -1,4 +1,4 @@
-use Rattle.sfx_community.proofs.Taken.{taken_has_member}
+use Rattle.sfx_community.proofs.TakenIds.{taken_has_member}
 use Rattle.sfx_community.proofs.laws.taken_ids_have_members.Goals as goal
 
 pub returns : goal.returns

@@ -1,4 +1,4 @@
-use Rattle.sfx_community.proofs.History.{turns_alone, turns_fit, turns_happen_lem, turns_not_ahead, turns_orderly, turns_whole}
+use Rattle.sfx_community.proofs.TurnsHappen.{turns_alone, turns_fit, turns_happen_lem, turns_not_ahead, turns_orderly, turns_whole}
 use Rattle.sfx_community.proofs.laws.turns_happen.Goals as goal
 
 pub returns-clause-happen : goal.returns-clause-happen

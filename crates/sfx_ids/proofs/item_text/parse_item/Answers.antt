@@ -1,5 +1,5 @@
 use Rattle.std.proofs.Common.{sym, ◌∙◌}
-use Rattle.sfx_ids.proofs.FrontLens.{item_decided}
+use Rattle.sfx_ids.proofs.PrefixLens.{item_decided}
 use Rattle.sfx_ids.proofs.ItemTexts.{read_item, same_item, pair_of_item, longest_item}
 use Rattle.std.proofs.lemmas.Option.{none-some}
 use Rattle.sfx_ids.proofs.item_text.parse_item.Goals as goal
@@ -18,7 +18,7 @@ returns-in-None-clause-only c id valid is_text =
     absurd (none-some _ (sym c.in-None.is ∙ read))
 
 pub returns-in-None-clause-err : goal.returns-in-None-clause-err
-returns-in-None-clause-err c = longest_item c.args.text.now c.front_len.result (rw c.as_bytes.ensures.value at c.front_len.ensures.longest)
+returns-in-None-clause-err c = longest_item c.args.text.now c.prefix_len.result (rw c.as_bytes.ensures.value at c.prefix_len.ensures.longest)
 
 pub returns-in-None-clause-place : goal.returns-in-None-clause-place
-returns-in-None-clause-place c = item_decided c.args.text.now c.front_len.result (rw c.as_bytes.ensures.value at c.front_len.ensures.decided)
+returns-in-None-clause-place c = item_decided c.args.text.now c.prefix_len.result (rw c.as_bytes.ensures.value at c.prefix_len.ensures.decided)

@@ -1,4 +1,4 @@
-use Rattle.sfx_ids.proofs.CutOrder.{cut_total, cut_exact, start-le, le-end, at-lt-after, alone}
+use Rattle.sfx_ids.proofs.CutLemmas.{cut_total, cut_exact, start-le, le-end, at-lt-after, alone}
 use Rattle.sfx_ids.proofs.laws.cuts_are_ordered.Goals as goal
 
 pub returns : goal.returns

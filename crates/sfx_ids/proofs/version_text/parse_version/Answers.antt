@@ -1,5 +1,5 @@
 use Rattle.std.proofs.Common.{sym, ◌∙◌}
-use Rattle.sfx_ids.proofs.FrontLens.{version_decided}
+use Rattle.sfx_ids.proofs.PrefixLens.{version_decided}
 use Rattle.sfx_ids.proofs.VersionTexts.{read_version, same_version, pair_of_version, longest_version}
 use Rattle.std.proofs.lemmas.Option.{none-some}
 use Rattle.sfx_ids.proofs.version_text.parse_version.Goals as goal
@@ -18,7 +18,7 @@ returns-in-None-clause-only c version valid is_text =
     absurd (none-some _ (sym c.in-None.is ∙ read))
 
 pub returns-in-None-clause-err : goal.returns-in-None-clause-err
-returns-in-None-clause-err c = longest_version c.args.text.now c.front_len.result (rw c.as_bytes.ensures.value at c.front_len.ensures.longest)
+returns-in-None-clause-err c = longest_version c.args.text.now c.prefix_len.result (rw c.as_bytes.ensures.value at c.prefix_len.ensures.longest)
 
 pub returns-in-None-clause-place : goal.returns-in-None-clause-place
-returns-in-None-clause-place c = version_decided c.args.text.now c.front_len.result (rw c.as_bytes.ensures.value at c.front_len.ensures.decided)
+returns-in-None-clause-place c = version_decided c.args.text.now c.prefix_len.result (rw c.as_bytes.ensures.value at c.prefix_len.ensures.decided)

@@ -2,7 +2,7 @@ use Rattle.std.proofs.Common.{rules, Decides}
 use Rattle.std.proofs.lemmas.Bool.Decides.{same_from_decides}
 use Rattle.sfx_item.specs.Clash.{Clash}
 use Rattle.sfx_item.specs.Decided.{is_clash}
-use Rattle.sfx_item.proofs.Decisions.{clash_decided}
+use Rattle.sfx_item.proofs.NamesAreDecided.{clash_decided}
 use Rattle.sfx_item.proofs.clash.clashes.Goals as goal
 
 pub returns-then-is_below-clause-decided : goal.returns-then-is_below-clause-decided

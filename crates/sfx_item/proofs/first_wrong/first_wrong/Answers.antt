@@ -1,7 +1,7 @@
 use Rattle.std.proofs.Common.{below_more, arith, sym}
 use Rattle.sfx_item.specs.Name.{IsWrongAt}
-use Rattle.sfx_item.proofs.Decisions.{fault_decided, name_decided}
-use Rattle.sfx_item.proofs.Places.{first_place, is_name}
+use Rattle.sfx_item.proofs.NamesAreDecided.{fault_decided, name_decided}
+use Rattle.sfx_item.proofs.NameLemmas.{first_place, is_name}
 use Rattle.sfx_item.proofs.first_wrong.first_wrong.Goals as goal
 
 pub returns-then-is_wrong_at-clause-wrong : goal.returns-then-is_wrong_at-clause-wrong

@@ -2,7 +2,7 @@ use Rattle.std.proofs.Common.{subst, arith}
 use Rattle.std.proofs.lemmas.List.{take_rest}
 use Rattle.std.specs.Bool.{IsTrue}
 use Rattle.sfx_item.specs.Faults.{HasControlBytes}
-use Rattle.sfx_item.proofs.Places.{control_within, control_found, control_bytes}
+use Rattle.sfx_item.proofs.NameLemmas.{control_within, control_found, control_bytes}
 use Rattle.sfx_item.proofs.first_wrong.is_control_at.Goals as goal
 
 pub returns-then-at-text_len : goal.returns-then-at-text_len

@@ -1,6 +1,6 @@
 use Rattle.std.proofs.Common.{arith}
 use Rattle.std.proofs.lemmas.List.{take_rest}
-use Rattle.sfx_item.proofs.Places.{improper_within, improper_says}
+use Rattle.sfx_item.proofs.NameLemmas.{improper_within, improper_says}
 use Rattle.sfx_item.proofs.first_wrong.is_improper_at.Goals as goal
 
 pub returns-then-at-text_len : goal.returns-then-at-text_len

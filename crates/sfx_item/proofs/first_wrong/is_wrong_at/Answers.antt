@@ -1,6 +1,6 @@
 use Rattle.std.proofs.Common.{refl}
 use Rattle.std.specs.Bool.{IsTrue}
-use Rattle.sfx_item.proofs.Places.{wrong_end, wrong_control, wrong_improper, wrong_kinds}
+use Rattle.sfx_item.proofs.NameLemmas.{wrong_end, wrong_control, wrong_improper, wrong_kinds}
 use Rattle.sfx_item.proofs.first_wrong.is_wrong_at.Goals as goal
 
 pub returns-then-is_text_end : goal.returns-then-is_text_end

@@ -1,6 +1,6 @@
 use Rattle.std.proofs.Common.{subst, sym}
 use Rattle.sfx_item.specs.Faults.{IsTextUpTo}
-use Rattle.sfx_item.proofs.Places.{text_ends}
+use Rattle.sfx_item.proofs.NameLemmas.{text_ends}
 use Rattle.sfx_item.proofs.first_wrong.text_len.Goals as goal
 
 pub returns-in-Err : goal.returns-in-Err

@@ -1,4 +1,4 @@
-use Rattle.sfx_item.proofs.Decisions.{wrong_decided, fault_decided, name_decided, clash_decided, clash_symmetric}
+use Rattle.sfx_item.proofs.NamesAreDecided.{wrong_decided, fault_decided, name_decided, clash_decided, clash_symmetric}
 use Rattle.sfx_item.proofs.laws.names_are_decided.Goals as goal
 
 pub returns-clause-wrong : goal.returns-clause-wrong

@@ -1,12 +1,12 @@
 use Rattle.std.proofs.Common.{◌≡◌, ◌-◌, ◌<◌, ◌∙◌, Some, ap, arith, length, suc, sym}
-use Rattle.sfx_item.specs.Item.{MemberItem}
+use Rattle.sfx_item.specs.Item.{ItemData}
 use Rattle.sfx_items.specs.Places.{count_before}
 use Rattle.sfx_items.proofs.ItemListLemmas.{count_within, last_at, last_none}
 use Rattle.sfx_items.proofs.beside.last_before.Goals as goal
 
 pub returns-then-count-eq0 : goal.returns-then-count-eq0
 returns-then-count-eq0 g c =
-    sym (last_none c.args.place.now c.args.items.now c.requires.rising (sym c.place_from-count.ensures ∙ c.if-count-eq0.true))
+    sym (last_none c.args.place.now c.args.items.now c.requires.ascending (sym c.place_from-count.ensures ∙ c.if-count-eq0.true))
 
 pub bounds-items-count : goal.bounds-items-count
 bounds-items-count g c =
@@ -25,5 +25,5 @@ pub returns : goal.returns
 returns g c =
     let count : count_before c.args.place.now c.args.items.now ≡ suc (c.place_from-count.result - 1) =
     let e = c.place_from-count.ensures in omega (arith, e) in
-    ap (λ (x : MemberItem). Some x) c.index-items-count.is
-    ∙ sym (last_at c.args.place.now c.args.items.now (c.place_from-count.result - 1) c.index-items-count.result c.requires.rising count)
+    ap (λ (x : ItemData). Some x) c.index-items-count.is
+    ∙ sym (last_at c.args.place.now c.args.items.now (c.place_from-count.result - 1) c.index-items-count.result c.requires.ascending count)

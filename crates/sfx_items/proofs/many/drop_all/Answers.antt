@@ -7,4 +7,4 @@ pub returns : goal.returns
 returns g c =
     let drops = c.requires.drops in
     (filter_same _ (stays c.args.drops.now) _ (λ x b f' k. search (rules, drops)) c.args.items.now.items c.retain.new.self.items c.retain.ensures.filtered)
-    ∙ drops_stay c.args.drops.now c.args.items.now.items c.requires.rising
+    ∙ drops_stay c.args.drops.now c.args.items.now.items c.requires.ascending

@@ -1,5 +1,5 @@
 use Rattle.std.proofs.Common.{ℕ, ◌<◌}
-use Rattle.sfx_knowledge.proofs.Known.{RowIsForm}
+use Rattle.sfx_knowledge.proofs.KnowledgeLemmas.{RowIsForm}
 use Rattle.sfx_knowledge.proofs.knowledge.rows_in_form.Given as goal
 
 abbrev pub invariant-loop-i : goal.invariant-loop-i

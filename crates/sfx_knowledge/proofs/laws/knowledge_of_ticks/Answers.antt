@@ -1,4 +1,4 @@
-use Rattle.sfx_knowledge.proofs.Making.{form-knowledge_of, ticks-knowledge_of, IsKnowledge-with_own, ticks-with_own}
+use Rattle.sfx_knowledge.proofs.FormsLemmas.{form-knowledge_of, ticks-knowledge_of, IsKnowledge-with_own, ticks-with_own}
 use Rattle.sfx_knowledge.proofs.laws.knowledge_of_ticks.Goals as goal
 
 pub returns : goal.returns

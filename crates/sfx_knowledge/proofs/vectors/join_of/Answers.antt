@@ -1,6 +1,6 @@
 use Rattle.std.proofs.Common.{ap, ◌∙◌, max}
 use Rattle.sfx_vector.specs.Clocks.{tick_of}
-use Rattle.sfx_knowledge.proofs.Clocks.{joined_is}
+use Rattle.sfx_knowledge.proofs.VectorsLemmas.{joined_is}
 use Rattle.sfx_knowledge.proofs.vectors.join_of.Goals as goal
 
 pub returns-clause-value : goal.returns-clause-value

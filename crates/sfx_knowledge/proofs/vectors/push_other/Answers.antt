@@ -1,7 +1,7 @@
 use Rattle.std.proofs.Common.{◌∙◌, sym, true≢false}
 use Rattle.std.proofs.lemmas.List.{append-nil}
 use Rattle.std.proofs.lemmas.Result.{on_ok_weaker}
-use Rattle.sfx_knowledge.proofs.Clocks.{same_clocks-true, same_clocks-false}
+use Rattle.sfx_knowledge.proofs.VectorsLemmas.{same_clocks-true, same_clocks-false}
 use Rattle.sfx_knowledge.proofs.vectors.push_other.Goals as goal
 
 pub returns-then-same : goal.returns-then-same

@@ -1,7 +1,7 @@
 use Rattle.std.proofs.Common.{◌≤◌, ◌-◌, subst, arith, below_more}
 use Rattle.sfx_vector.specs.Clocks.{AreClocks}
 use Rattle.sfx_knowledge.specs.Forms.{exceptions_of}
-use Rattle.sfx_knowledge.proofs.RowForms.{exceptions_more, exceptions_end, IsRow-parts}
+use Rattle.sfx_knowledge.proofs.RowLemmas.{exceptions_more, exceptions_end, IsRow-parts}
 use Rattle.sfx_knowledge.proofs.vectors.row_by.Goals as goal
 
 pub loop-unit-preserved : goal.loop-unit-preserved

@@ -2,7 +2,7 @@ use Rattle.std.proofs.Common.{◌≡◌, ◌≤◌, ◌∙◌, sym, ap, subst, a
 use Rattle.sfx_ids.specs.Tick.{max_tick}
 use Rattle.sfx_vector.specs.Clocks.{tick_of}
 use Rattle.sfx_knowledge.specs.Vectors.{clock_of, own_clocks}
-use Rattle.sfx_knowledge.proofs.Clocks.{own_is, ticks_with, ticks_without}
+use Rattle.sfx_knowledge.proofs.VectorsLemmas.{own_is, ticks_with, ticks_without}
 use Rattle.sfx_knowledge.proofs.vectors.with_tick.Goals as goal
 use Rattle.sfx_knowledge.proofs.vectors.with_tick.Goals.{in-Some+in_ok-raise, in_default}
 

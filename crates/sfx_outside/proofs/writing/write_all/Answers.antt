@@ -1,7 +1,7 @@
 use Rattle.std.proofs.Common.{rules}
 use Rattle.std.proofs.lemmas.List.{take_rest}
 use Rattle.std.proofs.lemmas.Result.{err_from_is_err_and}
-use Rattle.sfx_outside.proofs.SinkLemmas.{Adds-take, AddsFront-drop}
+use Rattle.sfx_outside.proofs.SinkLemmas.{Adds-take, AddsPrefix-drop}
 use Rattle.sfx_outside.proofs.writing.write_all.Goals as goal
 
 pub returns-in_err-done-clause-err : goal.returns-in_err-done-clause-err
@@ -9,7 +9,7 @@ returns-in_err-done-clause-err g c =
     let held = g.B.Sink.held in
     let exit = err_from_is_err_and c.from_residual.result c.from_residual.ensures.1 in
     rw exit.1
-    (AddsFront-drop
+    (AddsPrefix-drop
     (held c.args.out.now)
     (held c.loop-done.out)
     (held c.write.new.self)

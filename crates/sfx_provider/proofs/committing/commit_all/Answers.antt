@@ -1,7 +1,7 @@
 use Rattle.std.proofs.Common.{◌+◌, drop, arith}
 use Rattle.sfx_provider.specs.Leaves.{Arrives}
-use Rattle.sfx_provider.proofs.Courses.{opened, stands_off, stands_on}
-use Rattle.sfx_provider.proofs.Exits.{on_err_always}
+use Rattle.sfx_provider.proofs.CourseLemmas.{opened, stands_off, stands_on}
+use Rattle.sfx_provider.proofs.AnswerLemmas.{on_err_always}
 use Rattle.sfx_provider.proofs.LeavesLemmas.{arrives_on}
 use Rattle.sfx_provider.proofs.committing.commit_all.Goals as goal
 

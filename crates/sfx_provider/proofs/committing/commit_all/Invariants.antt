@@ -1,6 +1,6 @@
 use Rattle.std.proofs.Common.{◌≤◌, drop}
 use Rattle.sfx_provider.specs.Leaves.{Arrives}
-use Rattle.sfx_provider.proofs.Courses.{Stands}
+use Rattle.sfx_provider.proofs.CourseLemmas.{Stands}
 use Rattle.sfx_provider.proofs.committing.commit_all.Given as goal
 
 abbrev pub invariant-commits : goal.invariant-commits

@@ -1,4 +1,4 @@
-use Rattle.sfx_provider.proofs.Commits.{commits_exact, stored}
+use Rattle.sfx_provider.proofs.CommitLemmas.{commits_exact, stored}
 use Rattle.sfx_provider.proofs.laws.commits_are_exact.Goals as goal
 
 pub returns : goal.returns

@@ -1,4 +1,4 @@
-use Rattle.sfx_provider.proofs.Commits.{commits_consistent, stored}
+use Rattle.sfx_provider.proofs.CommitLemmas.{commits_consistent, stored}
 use Rattle.sfx_provider.proofs.laws.commits_keep_consistency.Goals as goal
 
 pub returns : goal.returns

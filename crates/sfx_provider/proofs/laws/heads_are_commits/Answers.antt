@@ -1,4 +1,4 @@
-use Rattle.sfx_provider.proofs.Heads.{drop_fits, put_fits, unchanged_fits, unchanged_same}
+use Rattle.sfx_provider.proofs.HeadLemmas.{drop_fits, put_fits, unchanged_fits, unchanged_same}
 use Rattle.sfx_provider.proofs.laws.heads_are_commits.Goals as goal
 
 pub returns : goal.returns

@@ -1,8 +1,8 @@
 use Rattle.std.proofs.Common.{◌∙◌, ap, sym, arith}
 use Rattle.std.proofs.lemmas.List.{append-nil}
-use Rattle.sfx_item.specs.Item.{MemberItem}
+use Rattle.sfx_item.specs.Item.{ItemData}
 use Rattle.sfx_provider.proofs.LeavesLemmas.{rests_on, rests_self}
-use Rattle.sfx_provider.proofs.Walks.{ended, fewer, from_start, walked_on}
+use Rattle.sfx_provider.proofs.WalkLemmas.{ended, fewer, from_start, walked_on}
 use Rattle.sfx_provider.proofs.walking.all_items.Goals as goal
 
 pub walk-init : goal.walk-init
@@ -15,17 +15,17 @@ walk-init g c = record {
 pub walk-smaller : goal.walk-smaller
 walk-smaller g c =
     let found = sym c.in_ok-item.ensures.value ∙ c.in-Some.is in
-    let id = ap (λ (x : MemberItem). x.id) c.item.view_is in
+    let id = ap (λ (x : ItemData). x.id) c.item.view_is in
     rw id (fewer c.walk.from (g.P.Provider.state c.args.provider.now).items c.in-Some.item
-    c.keeps.ensures.consistent.rising (rw c.walk.invariant.rests.same at found))
+    c.keeps.ensures.consistent.ascending (rw c.walk.invariant.rests.same at found))
 
 pub walk-preserved : goal.walk-preserved
 walk-preserved g c =
     let p = g.P.Provider in
     let found = sym c.in_ok-item.ensures.value ∙ c.in-Some.is in
-    let id = ap (λ (x : MemberItem). x.id) c.item.view_is in
-    let rising = c.keeps.ensures.consistent.rising in
-    let on = walked_on c.walk.from (p.state c.args.provider.now).items c.walk.items.items c.in-Some.item rising
+    let id = ap (λ (x : ItemData). x.id) c.item.view_is in
+    let ascending = c.keeps.ensures.consistent.ascending in
+    let on = walked_on c.walk.from (p.state c.args.provider.now).items c.walk.items.items c.in-Some.item ascending
     (rw c.walk.invariant.rests.same at found) c.walk.invariant.walked in
     let fell = c.in_ok-item.ensures.cause in
     let low = c.walk.invariant.faults in record {

@@ -1,5 +1,5 @@
 use Rattle.std.proofs.Common.{◌≡◌, ◌≤◌, ◌++◌, length}
-use Rattle.sfx_model.specs.Readings.{items_from}
+use Rattle.sfx_model.specs.members.Readings.{items_from}
 use Rattle.sfx_provider.specs.Leaves.{Rests}
 use Rattle.sfx_provider.proofs.walking.all_items.Given as goal
 

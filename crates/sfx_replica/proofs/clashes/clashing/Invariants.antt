@@ -1,6 +1,6 @@
 use Rattle.std.proofs.Common.{◌≡◌, ◌++◌, drop}
 use Rattle.std.specs.Option.{option_copied}
-use Rattle.sfx_model.specs.Readings.{clashing_with}
+use Rattle.sfx_model.specs.members.Readings.{clashing_with}
 use Rattle.sfx_replica.proofs.clashes.clashing.Given as goal
 
 -- what was found so far, and what the items that are left give

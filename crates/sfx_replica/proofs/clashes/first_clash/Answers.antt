@@ -1,8 +1,8 @@
 use Rattle.std.proofs.Common.{◌∙◌, ◌+◌, Some, ap, drop, refl, sym}
 use Rattle.std.specs.Option.{option_copied}
-use Rattle.sfx_item.specs.Item.{MemberItem}
-use Rattle.sfx_model.specs.Readings.{first_clash, is_in_the_way}
-use Rattle.sfx_replica.proofs.Scanning.{end_gives, if_false, if_true, next_gives}
+use Rattle.sfx_item.specs.Item.{ItemData}
+use Rattle.sfx_model.specs.members.Readings.{first_clash, is_in_the_way}
+use Rattle.sfx_replica.proofs.ClashingItems.{end_gives, if_false, if_true, next_gives}
 use Rattle.sfx_replica.proofs.clashes.first_clash.Goals as goal
 
 pub loop-item-init : goal.loop-item-init
@@ -23,7 +23,7 @@ returns-then-is_in_the_way g c =
     let name = c.args.name.now in
     let except = option_copied c.args.except in
     let next = first_clash name except (drop (c.loop-item.item-index + 1) c.args.items.now) in
-    rw (ap (λ (x : MemberItem). x.id) c.item.view_is)
+    rw (ap (λ (x : ItemData). x.id) c.item.view_is)
     (sym
     (next_gives (first_clash name except) c.args.items.now c.loop-item.item-index c.item-item.result (first_clash name except c.args.items.now)
     c.item-item.is c.loop-item-test.true c.loop-item.invariant

@@ -1,6 +1,6 @@
 use Rattle.std.proofs.Common.{◌≡◌, drop}
 use Rattle.std.specs.Option.{option_copied}
-use Rattle.sfx_model.specs.Readings.{first_clash}
+use Rattle.sfx_model.specs.members.Readings.{first_clash}
 use Rattle.sfx_replica.proofs.clashes.first_clash.Given as goal
 
 -- the items that are left give the answer

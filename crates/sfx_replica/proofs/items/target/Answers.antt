@@ -1,7 +1,7 @@
 use Rattle.std.proofs.Common.{◌∙◌, Some, ap, arith, refl, sym}
-use Rattle.sfx_item.specs.Item.{MemberItem, state_view}
+use Rattle.sfx_item.specs.Item.{ItemData, state_view}
 use Rattle.sfx_items.proofs.ItemListLemmas.{at_place, not_there, state_there}
-use Rattle.sfx_replica.proofs.Refusing.{past_from, refused_absent, refused_dead, refused_unit}
+use Rattle.sfx_replica.proofs.RefusalsLemmas.{past_from, refused_absent, refused_dead, refused_unit}
 use Rattle.sfx_replica.proofs.items.target.Goals as goal
 
 pub returns-in_default-clause-err : goal.returns-in_default-clause-err
@@ -18,7 +18,7 @@ returns-in-Dead-clause-err g c m value =
     let place = at_place c.args.items.now c.args.items.now c.args.id.now c.in-Some.place c.place_of.result refl c.place_of.ensures c.in-Some.is in
     refused_dead g.row.U m c.args.items.now c.args.id.now c.args.k value c.in-Dead.field-0
     (state_there c.args.items.now c.args.id.now c.in-Some.place c.index-items-place.result place c.index-items-place.is
-    ∙ sym (ap (λ (x : MemberItem). Some x.state) c.item.view_is) ∙ ap (λ s. Some (state_view s)) c.in-Dead.is)
+    ∙ sym (ap (λ (x : ItemData). Some x.state) c.item.view_is) ∙ ap (λ s. Some (state_view s)) c.in-Dead.is)
 
 pub offset_bounds-items-place : goal.offset_bounds-items-place
 offset_bounds-items-place g c =
@@ -33,7 +33,7 @@ returns-in-Some-new-clause-ok g c =
       live = (
         c.in_default-state.field-0,
         state_there c.args.items.now c.args.id.now c.in-Some.place c.index-items-place.result place c.index-items-place.is
-            ∙ sym (ap (λ (x : MemberItem). Some x.state) c.item.view_is) ∙ ap (λ s. Some (state_view s)) c.in_default-state.is,
+            ∙ sym (ap (λ (x : ItemData). Some x.state) c.item.view_is) ∙ ap (λ s. Some (state_view s)) c.in_default-state.is,
       );
       same = c.in-Some-new.ensures.value;
       inside = c.in-Some-new.ensures.valid.0 refl;
@@ -44,5 +44,5 @@ returns-in-None-clause-err g c m value =
     let place = at_place c.args.items.now c.args.items.now c.args.id.now c.in-Some.place c.place_of.result refl c.place_of.ensures c.in-Some.is in
     refused_unit g.row.U m c.args.items.now c.args.id.now c.args.k value c.in_default-state.field-0
     (state_there c.args.items.now c.args.id.now c.in-Some.place c.index-items-place.result place c.index-items-place.is
-    ∙ sym (ap (λ (x : MemberItem). Some x.state) c.item.view_is) ∙ ap (λ s. Some (state_view s)) c.in_default-state.is)
+    ∙ sym (ap (λ (x : ItemData). Some x.state) c.item.view_is) ∙ ap (λ s. Some (state_view s)) c.in_default-state.is)
     (past_from c.args.k g.row.U c.in-None.ensures.valid.1)

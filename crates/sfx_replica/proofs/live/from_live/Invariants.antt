@@ -1,5 +1,5 @@
 use Rattle.std.proofs.Common.{◌≡◌, drop}
-use Rattle.sfx_model.specs.Headline.{live_items}
+use Rattle.sfx_model.specs.members.Headline.{live_items}
 use Rattle.sfx_replica.proofs.live.from_live.Given as goal
 
 -- no item before this one is live

@@ -1,5 +1,5 @@
 use Rattle.std.proofs.Common.{length}
-use Rattle.sfx_replica.proofs.Comparing.{Compares}
+use Rattle.sfx_replica.proofs.LiveLemmas.{Compares}
 use Rattle.sfx_replica.proofs.live.same_live.Given as goal
 
 abbrev pub invariant-pairs : goal.invariant-pairs

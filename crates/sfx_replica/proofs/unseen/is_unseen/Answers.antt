@@ -1,7 +1,7 @@
 use Rattle.std.proofs.Common.{◌≡◌, sym, subst, ℕ, true}
-use Rattle.sfx_model.specs.Events.{some_unit}
-use Rattle.sfx_model.specs.Readings.{is_unseen_at}
-use Rattle.sfx_model.proofs.Marks.{some_of}
+use Rattle.sfx_model.specs.world.Events.{some_unit}
+use Rattle.sfx_model.specs.members.Readings.{is_unseen_at}
+use Rattle.sfx_model.proofs.world.UnitMarkLemmas.{some_of}
 use Rattle.sfx_replica.proofs.unseen.is_unseen.Goals as goal
 
 pub returns-in-loop-k : goal.returns-in-loop-k

@@ -1,6 +1,6 @@
 use Rattle.std.proofs.Common.{◌≡◌, false}
-use Rattle.sfx_model.specs.Events.{some_unit}
-use Rattle.sfx_model.specs.Readings.{is_unseen_at}
+use Rattle.sfx_model.specs.world.Events.{some_unit}
+use Rattle.sfx_model.specs.members.Readings.{is_unseen_at}
 use Rattle.sfx_replica.proofs.unseen.is_unseen.Given as goal
 
 -- no unit so far is one

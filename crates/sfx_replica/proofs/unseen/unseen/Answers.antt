@@ -1,9 +1,9 @@
 use Rattle.std.proofs.Common.{◌≡◌, ◌∙◌, ◌<◌, ◌≤◌, ap, sym, true, false, drop, length, arith}
 use Rattle.std.proofs.lemmas.Result.{err_from_is_err_and}
-use Rattle.sfx_item.specs.Item.{MemberItem}
-use Rattle.sfx_model.specs.Readings.{unseen}
+use Rattle.sfx_item.specs.Item.{ItemData}
+use Rattle.sfx_model.specs.members.Readings.{unseen}
 use Rattle.sfx_replica.specs.Items.{is_next_unseen}
-use Rattle.sfx_replica.proofs.Gathering.{gathered_end, gathered_full, gathers_none, next_found, next_passed}
+use Rattle.sfx_replica.proofs.UnseenItems.{gathered_end, gathered_full, gathers_none, next_found, next_passed}
 use Rattle.sfx_replica.proofs.unseen.unseen.Goals as goal
 
 pub loop-item-preserved : goal.loop-item-preserved
@@ -12,7 +12,7 @@ loop-item-preserved g c =
     let less = c.if-len-limit.false in
     let room : length c.loop-item.ids.items < c.args.limit = omega (arith, len, less) in
     let next : is_next_unseen g.row.U c.args.to.now c.args.from.now c.item-item.result ≡ true = sym c.is_next_unseen.ensures ∙ c.if-not-is_next_unseen.false in
-    rw (c.in_ok-push.ensures.items, ap (λ (x : MemberItem). x.id) c.item.view_is)
+    rw (c.in_ok-push.ensures.items, ap (λ (x : ItemData). x.id) c.item.view_is)
     (next_found g.row.U (λ x. x.id) c.args.limit c.args.to.now c.args.from.now c.args.items.now c.loop-item.item-index c.item-item.result c.loop-item.ids.items
     c.item-item.is c.loop-item-test.true c.loop-item.invariant next room)
 

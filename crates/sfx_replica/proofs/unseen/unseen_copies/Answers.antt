@@ -1,8 +1,8 @@
 use Rattle.std.proofs.Common.{◌≡◌, ◌∙◌, ◌<◌, sym, true, false, length, arith}
 use Rattle.std.proofs.lemmas.Result.{err_from_is_err_and}
-use Rattle.sfx_model.specs.Readings.{unseen}
+use Rattle.sfx_model.specs.members.Readings.{unseen}
 use Rattle.sfx_replica.specs.Items.{is_next_unseen}
-use Rattle.sfx_replica.proofs.Gathering.{gathers_none, next_found, next_passed}
+use Rattle.sfx_replica.proofs.UnseenItems.{gathers_none, next_found, next_passed}
 use Rattle.sfx_replica.proofs.unseen.unseen_copies.Goals as goal
 
 pub loop-item-preserved : goal.loop-item-preserved

@@ -1,6 +1,6 @@
 use Rattle.std.proofs.Common.{drop}
-use Rattle.sfx_model.specs.Readings.{unseen}
-use Rattle.sfx_replica.proofs.Gathering.{Gathers}
+use Rattle.sfx_model.specs.members.Readings.{unseen}
+use Rattle.sfx_replica.proofs.UnseenItems.{Gathers}
 use Rattle.sfx_replica.proofs.unseen.unseen_copies.Given as goal
 
 -- what was found so far, and what the items that are left give

@@ -1,6 +1,6 @@
 use Rattle.std.proofs.Common.{◌<◌, arith, inl, inr, subst, sym}
 use Rattle.sfx_ids.specs.declared.item_id.ItemId.{ItemId}
-use Rattle.sfx_model.specs.Members.{IsIdBelow}
+use Rattle.sfx_model.specs.members.Members.{IsIdBelow}
 use Rattle.sfx_replica_tests.proofs.items.takes_many_items_away.Goals as goal
 
 pub drop_all-requires : goal.drop_all-requires

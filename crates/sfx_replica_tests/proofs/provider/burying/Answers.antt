@@ -2,7 +2,7 @@ use Rattle.std.proofs.Common.{◌≡◌, ◌∙◌, ap, refl, subst}
 use Rattle.std.specs.Prelude.{IfOk}
 use Rattle.sfx_provider.specs.Commit.{CommitData, commit_of}
 use Rattle.sfx_provider.specs.Head.{HeadData, head_of}
-use Rattle.sfx_replica_tests.proofs.Burying.{burying_fits_by}
+use Rattle.sfx_replica_tests.proofs.TombstoneCommits.{burying_fits_by}
 use Rattle.sfx_replica_tests.proofs.provider.burying.Goals as goal
 
 pub returns : goal.returns

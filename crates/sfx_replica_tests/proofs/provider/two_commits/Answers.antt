@@ -2,7 +2,7 @@ use Rattle.std.proofs.Common.{◌≡◌, ◌∙◌, ◌∷◌, [], ap, subst}
 use Rattle.std.specs.Prelude.{IfOk}
 use Rattle.sfx_provider.specs.Commit.{commit_of}
 use Rattle.sfx_provider.specs.Head.{HeadData, head_of}
-use Rattle.sfx_replica_tests.proofs.Burying.{both_fit}
+use Rattle.sfx_replica_tests.proofs.TombstoneCommits.{both_fit}
 use Rattle.sfx_replica_tests.proofs.provider.two_commits.Goals as goal
 
 pub returns : goal.returns

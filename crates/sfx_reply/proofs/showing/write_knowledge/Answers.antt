@@ -1,6 +1,6 @@
 use Rattle.std.proofs.Common.{ap, sym, ◌∙◌, slice_get}
 use Rattle.sfx_reply.specs.Listing.{segment_text}
-use Rattle.sfx_reply.proofs.Listings.{one_written, segment_of, segment_parts}
+use Rattle.sfx_reply.proofs.ListingLemmas.{one_written, segment_of, segment_parts}
 use Rattle.sfx_reply.proofs.showing.write_knowledge.Goals as goal
 
 pub loop-i-preserved : goal.loop-i-preserved

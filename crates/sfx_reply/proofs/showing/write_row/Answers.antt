@@ -1,10 +1,10 @@
 use Rattle.std.proofs.Common.{◌++◌, ap, ◌∙◌}
 use Rattle.std.specs.List.{flat_map}
 use Rattle.sfx_knowledge.specs.Row.{row_at}
-use Rattle.sfx_knowledge.proofs.RowForms.{row_at-first}
+use Rattle.sfx_knowledge.proofs.RowLemmas.{row_at-first}
 use Rattle.sfx_script.specs.Printed.{vector_text}
-use Rattle.sfx_reply.specs.Listing.{other_text, unit_text}
-use Rattle.sfx_reply.proofs.Listings.{row_printed, unit_printed}
+use Rattle.sfx_reply.specs.Listing.{exception_text, unit_text}
+use Rattle.sfx_reply.proofs.ListingLemmas.{row_printed, unit_printed}
 use Rattle.sfx_reply.proofs.showing.write_row.Goals as goal
 
 pub loop-k-preserved : goal.loop-k-preserved
@@ -20,4 +20,4 @@ pub returns : goal.returns
 returns g c =
     let end = c.loop-k-test.false in
     let printed = row_printed g.row.U c.loop-k.k c.args.row.now c.loop-k.out.items c.args.out.now.items (vector_text (row_at c.args.row.now 0)) c.requires end c.get-first.ensures.form c.loop-k.invariant in
-    printed ∙ ap (λ b. c.args.out.now.items ++ vector_text b ++ flat_map other_text c.args.row.now.others) (row_at-first g.row.U c.args.row.now c.get-first.ensures.form)
+    printed ∙ ap (λ b. c.args.out.now.items ++ vector_text b ++ flat_map exception_text c.args.row.now.others) (row_at-first g.row.U c.args.row.now c.get-first.ensures.form)

@@ -1,5 +1,5 @@
 use Rattle.std.proofs.Common.{sym, ◌∙◌, append-nil}
-use Rattle.sfx_reply.proofs.Listings.{same_tested}
+use Rattle.sfx_reply.proofs.ListingLemmas.{same_tested}
 use Rattle.sfx_reply.proofs.showing.write_unit.Goals as goal
 
 pub returns-then-same : goal.returns-then-same

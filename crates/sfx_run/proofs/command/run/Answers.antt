@@ -1,11 +1,11 @@
 use Rattle.std.proofs.Common.{◌≡◌, ◌<◌, ◌≤◌, ◌⊎◌, ◌∙◌, ℕ, true, false, true≢false, inl, inr, length, refl, sym, arith}
 use Rattle.sfx_outside.specs.Sink.{Adds}
-use Rattle.sfx_model.specs.World.{World, WellFormed}
-use Rattle.sfx_run.proofs.Played.{played_fits, played_happens, played_not_ahead}
-use Rattle.sfx_run.proofs.Running.{answered_or_memory, has_begun, neither, takes_nothing, told, told_anyhow, unanswered, unlike}
+use Rattle.sfx_model.specs.world.World.{World, WellFormed}
+use Rattle.sfx_run.proofs.PlayedScripts.{played_fits, played_happens, played_not_ahead}
+use Rattle.sfx_run.proofs.SourceLemmas.{answered_or_memory, has_begun, neither, takes_nothing, told, told_anyhow, unanswered, unlike}
 use Rattle.sfx_run.specs.declared.status.Status.TheVariants.{Memory, SinkFault, SourceFault, TooLong, Usage}
 use Rattle.sfx_community.specs.History.{AllFit, AreNotAhead, HasHappened, IsAllOf}
-use Rattle.sfx_run.specs.Run.{BrokeOff, WantedMemory, has_refusal, played, played_text, played_to}
+use Rattle.sfx_run.specs.Run.{BrokeOff, RanOutOfMemory, has_refusal, played, played_text, played_to}
 use Rattle.sfx_run.specs.Status.{IsAnswered}
 use Rattle.sfx_community.specs.State.{State, community_of}
 use Rattle.sfx_community.specs.Turn.{empty_state}
@@ -72,7 +72,7 @@ returns-clause-broken_off g c is =
 
 pub returns-clause-memory : goal.returns-clause-memory
 returns-clause-memory g c is =
-    inr (told (λ s. (x : State) × WantedMemory empty_state s (g.B.Sink.held c.args.out.now) (g.B.Sink.held c.answer.new.out) x) _ c.in-Ok.script.items c.in-Ok.ensures.all
+    inr (told (λ s. (x : State) × RanOutOfMemory empty_state s (g.B.Sink.held c.args.out.now) (g.B.Sink.held c.answer.new.out) x) _ c.in-Ok.script.items c.in-Ok.ensures.all
     (rw c.as_slice.ensures.value at (c.answer.ensures.memory is)))
 
 pub returns-clause-unread : goal.returns-clause-unread

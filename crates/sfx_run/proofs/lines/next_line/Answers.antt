@@ -2,7 +2,7 @@ use Rattle.std.proofs.Common.{◌≡◌, ◌==◌, ◌+◌, false, get_or, arith
 use Rattle.std.proofs.lemmas.Bool.Decides.{nat_tests}
 use Rattle.std.proofs.lemmas.List.{take_rest}
 use Rattle.std.proofs.lemmas.List.Elements.{All-more}
-use Rattle.sfx_run.proofs.Playing.{lines_of-first, lines_of-one}
+use Rattle.sfx_run.proofs.PartlyPlayed.{lines_of-first, lines_of-one}
 use Rattle.sfx_run.proofs.lines.next_line.Goals as goal
 
 pub loop-place-preserved : goal.loop-place-preserved

@@ -1,6 +1,6 @@
 use Rattle.std.proofs.Common.{◌≡◌, ◌∷◌, ap, ◌∙◌, arith}
 use Rattle.std.proofs.lemmas.Result.{err_from_is_err_and}
-use Rattle.sfx_run.proofs.Playing.{so_far-broke, so_far-memory, so_far-refused, so_far-start, so_far-state, so_far-step, so_far-text}
+use Rattle.sfx_run.proofs.PartlyPlayed.{so_far-broke, so_far-memory, so_far-refused, so_far-start, so_far-state, so_far-step, so_far-text}
 use Rattle.sfx_run.specs.Run.{lines_left}
 use Rattle.sfx_run.proofs.lines.play.Goals as goal
 

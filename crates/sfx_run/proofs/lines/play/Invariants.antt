@@ -1,6 +1,6 @@
 use Rattle.std.proofs.Common.{◌+◌, ◌≤◌, length}
 use Rattle.std.specs.Option.{option_map_or}
-use Rattle.sfx_run.proofs.Playing.{SoFar}
+use Rattle.sfx_run.proofs.PartlyPlayed.{SoFar}
 use Rattle.sfx_run.specs.Run.{lines_left}
 use Rattle.sfx_run.proofs.lines.play.Given as goal
 

@@ -1,6 +1,6 @@
-use Rattle.sfx_script.proofs.Lines.{either, never}
-use Rattle.sfx_script.proofs.Rows.{sound, whole}
-use Rattle.sfx_script.proofs.Wrongs.{wrong_first}
+use Rattle.sfx_script.proofs.LinesAreRead.{either, never}
+use Rattle.sfx_script.proofs.LineLemmas.{sound, whole}
+use Rattle.sfx_script.proofs.WrongLemmas.{wrong_first}
 use Rattle.sfx_script.proofs.laws.lines_are_right.Goals as goal
 
 pub returns-clause-rows : goal.returns-clause-rows

@@ -1,6 +1,6 @@
 use Rattle.std.proofs.Common.{refl, sym}
 use Rattle.std.proofs.lemmas.Result.{err_from_is_err_and}
-use Rattle.sfx_script.proofs.Failing.{answers_fault}
+use Rattle.sfx_script.proofs.ReadingFaults.{answers_fault}
 use Rattle.sfx_script.proofs.line_words.clean_line.Goals as goal
 
 pub returns-in_err-replica : goal.returns-in_err-replica

@@ -1,6 +1,6 @@
 use Rattle.std.proofs.Common.{sym}
 use Rattle.std.proofs.lemmas.Result.{err_from_is_err_and}
-use Rattle.sfx_script.proofs.Failing.{answers_fault}
+use Rattle.sfx_script.proofs.ReadingFaults.{answers_fault}
 use Rattle.sfx_script.proofs.line_words.replica_line.Goals as goal
 
 pub returns-in_err-name : goal.returns-in_err-name

@@ -1,6 +1,6 @@
-use Rattle.sfx_script.proofs.Limits.{answer_limited}
-use Rattle.sfx_script.proofs.Lines.{faults_are, lines_are_read}
-use Rattle.sfx_script.proofs.Wrongs.{answer_place}
+use Rattle.sfx_script.proofs.LimitsLemmas.{answer_limited}
+use Rattle.sfx_script.proofs.LinesAreRead.{faults_are, lines_are_read}
+use Rattle.sfx_script.proofs.WrongLemmas.{answer_place}
 use Rattle.sfx_script.proofs.parsing.parse_line.Goals as goal
 
 pub returns-clause-err : goal.returns-clause-err

@@ -1,7 +1,7 @@
 use Rattle.std.proofs.Common.{subst, sym}
 use Rattle.std.proofs.lemmas.Result.{err_from_is_err_and}
 use Rattle.sfx_script.specs.Reading.{Fails, next_word}
-use Rattle.sfx_script.proofs.Failing.{answers_fault}
+use Rattle.sfx_script.proofs.ReadingFaults.{answers_fault}
 use Rattle.sfx_script.proofs.parsing.read_line.Goals as goal
 
 pub returns-in_err-first : goal.returns-in_err-first

@@ -2,8 +2,8 @@ use Rattle.std.proofs.Common.{◌≡◌, ◌<◌, true, false, ap, arith, codes,
 use Rattle.std.specs.List.{prefix_len}
 use Rattle.std.specs.Str.{bytes_eq}
 use Rattle.sfx_script.specs.Word.{is_printable}
-use Rattle.sfx_script.proofs.Fronts.{front_within}
-use Rattle.sfx_script.proofs.Valuing.{value_bare, value_decoded, value_wrong, flip, unflip}
+use Rattle.sfx_script.proofs.WordPrefixes.{prefix_within}
+use Rattle.sfx_script.proofs.ValueWords.{value_bare, value_decoded, value_wrong, flip, unflip}
 use Rattle.sfx_script.proofs.value_word.value_in.Goals as goal
 use Rattle.sfx_script.proofs.value_word.value_in.Goals.{then-len-eq0-via-then-len-eq0, then-len-eq0-via-else-len-eq0+then-len-word, then-ne+in_ok-append_to, else-ne}
 
@@ -19,7 +19,7 @@ pub returns : goal.returns
 returns c =
     let text = c.args.word.now.text.now in
     let len = c.printable_len-len.ensures in
-    let within = front_within is_printable text in
+    let within = prefix_within is_printable text in
     let whole : prefix_len is_printable text ≡ length text = omega (arith, len, c.if-len-word.false) in
     let some : 0 < length text = omega (arith, len, whole, c.if-len-eq0.false) in
     let dash = c.as_slice.ensures in

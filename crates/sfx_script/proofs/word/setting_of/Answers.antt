@@ -1,7 +1,7 @@
 use Rattle.std.proofs.Common.{◌≡◌, Some, nat_le, true, arith, refl, sym, ◌∙◌}
 use Rattle.std.proofs.lemmas.Bool.Decides.{nat_tests}
 use Rattle.sfx_script.specs.Word.{number_of}
-use Rattle.sfx_script.proofs.Settings.{setting_none, setting_some}
+use Rattle.sfx_script.proofs.SettingWords.{setting_none, setting_some}
 use Rattle.sfx_script.proofs.word.setting_of.Goals as goal
 
 pub returns-in_err-strip_prefix : goal.returns-in_err-strip_prefix

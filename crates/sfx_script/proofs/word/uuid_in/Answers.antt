@@ -1,6 +1,6 @@
 use Rattle.std.proofs.Common.{ap, option_map, sym, ◌∙◌}
 use Rattle.sfx_script.specs.Word.{uuid_of}
-use Rattle.sfx_script.proofs.Fronts.{printed_text}
+use Rattle.sfx_script.proofs.WordPrefixes.{printed_text}
 use Rattle.sfx_script.proofs.word.uuid_in.Goals as goal
 
 pub returns : goal.returns

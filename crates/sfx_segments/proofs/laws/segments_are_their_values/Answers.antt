@@ -1,5 +1,5 @@
-use Rattle.sfx_segments.proofs.Places.{never_empty, value_at-total, or_else}
-use Rattle.sfx_segments.proofs.Forms.{one_form}
+use Rattle.sfx_segments.proofs.PlaceValues.{never_empty, value_at-total, or_else}
+use Rattle.sfx_segments.proofs.SegmentsLemmas.{one_form}
 use Rattle.sfx_segments.proofs.laws.segments_are_their_values.Goals as goal
 
 pub returns : goal.returns

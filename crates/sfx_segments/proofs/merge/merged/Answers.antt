@@ -1,7 +1,7 @@
 use Rattle.std.proofs.Common.{get_or, subst}
 use Rattle.sfx_segments.specs.Merge.{Extends}
-use Rattle.sfx_segments.proofs.Merging.{merge_begins, merge_goes_on, merge_shorter, merge_ends, not_at_end, at_end}
-use Rattle.sfx_segments.proofs.Passing.{not_empty}
+use Rattle.sfx_segments.proofs.MergeLemmas.{merge_begins, merge_goes_on, merge_shorter, merge_ends, not_at_end, at_end}
+use Rattle.sfx_segments.proofs.PassedSegments.{not_empty}
 use Rattle.sfx_segments.proofs.merge.merged.Goals as goal
 
 pub merge-init : goal.merge-init
@@ -41,6 +41,6 @@ bounds-ys-0 g c = not_empty c.args.ys.now c.requires.right
 
 pub push_segment-requires : goal.push_segment-requires
 push_segment-requires g c = record {
-  front = c.merge.invariant.front;
+  prefix = c.merge.invariant.prefix;
   place = not_at_end c.ne.result c.merge.next c.ne.ensures c.merge-test.true;
 }

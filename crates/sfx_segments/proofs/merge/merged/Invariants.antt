@@ -1,5 +1,5 @@
 use Rattle.std.proofs.Common.{◌+◌, length}
-use Rattle.sfx_segments.proofs.Merging.{Merged}
+use Rattle.sfx_segments.proofs.MergeLemmas.{Merged}
 use Rattle.sfx_segments.proofs.merge.merged.Given as goal
 
 abbrev pub invariant-merge : goal.invariant-merge

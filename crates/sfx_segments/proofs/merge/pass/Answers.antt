@@ -1,5 +1,5 @@
 use Rattle.std.proofs.Common.{sym, ◌∙◌}
-use Rattle.sfx_segments.proofs.Passing.{pass_goes_on, pass_stops, pass_ends}
+use Rattle.sfx_segments.proofs.PassedSegments.{pass_goes_on, pass_stops, pass_ends}
 use Rattle.sfx_segments.proofs.merge.pass.Goals as goal
 use Rattle.sfx_segments.proofs.merge.pass.Goals.{in_default, in-len1-up+then-lt}
 

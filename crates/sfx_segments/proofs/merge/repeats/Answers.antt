@@ -1,8 +1,8 @@
 use Rattle.std.proofs.Common.{◌≡◌, ◌-◌, Some, length, slice_get, sym, ap, ◌∙◌}
 use Rattle.std.specs.Option.{option_copied}
 use Rattle.sfx_segments.specs.Merge.{last_value}
-use Rattle.sfx_segments.proofs.Places.{some_same}
-use Rattle.sfx_segments.proofs.Pushing.{last_value-read}
+use Rattle.sfx_segments.proofs.PlaceValues.{some_same}
+use Rattle.sfx_segments.proofs.PushedValues.{last_value-read}
 use Rattle.sfx_segments.proofs.merge.repeats.Goals as goal
 
 pub returns-in-Some : goal.returns-in-Some

@@ -1,5 +1,5 @@
 use Rattle.std.proofs.Common.{None, refl}
-use Rattle.sfx_session.proofs.Skipping.{session_done}
+use Rattle.sfx_session.proofs.NoTickDrawn.{session_done}
 use Rattle.sfx_session.proofs.laws.uncut_sessions_are_done.Goals as goal
 
 pub returns : goal.returns

@@ -1,7 +1,7 @@
 use Rattle.std.proofs.lemmas.Result.{err_from_is_err_and}
-use Rattle.sfx_provider.proofs.Exits.{if_ok_never, ok_never}
+use Rattle.sfx_provider.proofs.AnswerLemmas.{if_ok_never, ok_never}
 use Rattle.sfx_provider.proofs.LeavesLemmas.{rests_self}
-use Rattle.sfx_session.proofs.Sides.{source_spares_destination, destination_spares_source}
+use Rattle.sfx_session.proofs.FaultLemmas.{source_spares_destination, destination_spares_source}
 use Rattle.sfx_session.proofs.refusal.bearing.Goals as goal
 
 pub returns-in_err-from : goal.returns-in_err-from

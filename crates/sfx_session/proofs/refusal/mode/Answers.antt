@@ -1,5 +1,5 @@
 use Rattle.std.proofs.Common.{true≢false, ◌∙◌, sym}
-use Rattle.sfx_session.proofs.Deciding.{mode-normal, mode-recover}
+use Rattle.sfx_session.proofs.ModeTests.{mode-normal, mode-recover}
 use Rattle.sfx_session.proofs.refusal.mode.Goals as goal
 
 pub returns-then-within : goal.returns-then-within

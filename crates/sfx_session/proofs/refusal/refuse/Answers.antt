@@ -1,7 +1,7 @@
 use Rattle.std.proofs.lemmas.Result.{err_from_is_err_and}
-use Rattle.sfx_provider.proofs.Exits.{if_ok_never, ok_never}
-use Rattle.sfx_session.proofs.Acting.{never_ahead}
-use Rattle.sfx_session.proofs.Sides.{no_refusal_ahead}
+use Rattle.sfx_provider.proofs.AnswerLemmas.{if_ok_never, ok_never}
+use Rattle.sfx_session.proofs.SessionsAct.{never_ahead}
+use Rattle.sfx_session.proofs.FaultLemmas.{no_refusal_ahead}
 use Rattle.sfx_session.proofs.refusal.refuse.Goals as goal
 
 pub returns-in_err-tick-clause-mode : goal.returns-in_err-tick-clause-mode

@@ -1,6 +1,6 @@
 use Rattle.std.proofs.Common.{◌++◌, ◌∷◌, [], take, ap, sym, ◌∙◌}
 use Rattle.std.proofs.lemmas.List.{take_all, take_more}
-use Rattle.sfx_provider.proofs.Exits.{if_ok_never}
+use Rattle.sfx_provider.proofs.AnswerLemmas.{if_ok_never}
 use Rattle.sfx_session.proofs.report.copied_steps.Goals as goal
 
 pub loop-step-preserved : goal.loop-step-preserved

@@ -1,10 +1,10 @@
 use Rattle.std.proofs.Common.{◌∙◌, ap, le_refl}
 use Rattle.std.proofs.lemmas.Result.{err_from_is_err_and}
-use Rattle.sfx_model.specs.Batch.{batch_from}
+use Rattle.sfx_model.specs.sessions.Batch.{batch_from}
 use Rattle.sfx_provider.specs.Head.{HeadData}
-use Rattle.sfx_provider.proofs.Exits.{if_ok_never}
+use Rattle.sfx_provider.proofs.AnswerLemmas.{if_ok_never}
 use Rattle.sfx_provider.proofs.LeavesLemmas.{rests_self}
-use Rattle.sfx_session.proofs.Sides.{destination_spares_source}
+use Rattle.sfx_session.proofs.FaultLemmas.{destination_spares_source}
 use Rattle.sfx_session.proofs.sessions.next_batch.Goals as goal
 
 pub returns-in_err-head : goal.returns-in_err-head

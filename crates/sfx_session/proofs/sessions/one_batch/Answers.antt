@@ -1,16 +1,16 @@
 use Rattle.std.proofs.Common.{◌≡◌, [], inl, ap, le_trans, refl, subst, ◌∙◌}
 use Rattle.std.proofs.lemmas.List.{append-nil}
 use Rattle.std.proofs.lemmas.Result.{err_from_is_err_and}
-use Rattle.sfx_model.specs.Knowing.{ahead_of, laid_known}
-use Rattle.sfx_model.specs.Members.{Member}
-use Rattle.sfx_model.specs.Moments.{committed, stops}
-use Rattle.sfx_model.specs.Session.{Outcome, applied}
-use Rattle.sfx_provider.proofs.Causes.{cause_later, when_then}
-use Rattle.sfx_provider.proofs.Exits.{if_ok_never, ok_never, on_err_always}
+use Rattle.sfx_model.specs.sessions.MemberKnowledge.{ahead_of, laid_known}
+use Rattle.sfx_model.specs.members.Members.{Member}
+use Rattle.sfx_model.specs.sessions.Moments.{committed, stops}
+use Rattle.sfx_model.specs.sessions.Session.{Outcome, outcome_of}
+use Rattle.sfx_provider.proofs.FaultLemmas.{cause_later, when_then}
+use Rattle.sfx_provider.proofs.AnswerLemmas.{if_ok_never, ok_never, on_err_always}
 use Rattle.sfx_provider.proofs.LeavesLemmas.{arrives_later, breaks_behind, breaks_later, breaks_still}
 use Rattle.sfx_provider.specs.Leaves.{Arrives, BreaksOff}
-use Rattle.sfx_session.proofs.Skipping.{ahead_stays, outcome_stays}
-use Rattle.sfx_session.proofs.Travels.{outcome_stops}
+use Rattle.sfx_session.proofs.NoTickDrawn.{ahead_stays, outcome_stays}
+use Rattle.sfx_session.proofs.TravelLemmas.{outcome_stops}
 use Rattle.sfx_session.specs.Fault.{blames_destination, blames_source}
 use Rattle.sfx_session.specs.Travel.{due_outcome}
 use Rattle.sfx_session.proofs.sessions.one_batch.Goals as goal
@@ -44,7 +44,7 @@ returns-in_err-applied g c =
     let rules = rules_view g.M.Merger.meaning c.args.rules.now in
     let now = q.state c.args.destination.now in
     let o = due_outcome g.row.U (p.state c.args.source.now) c.args.mode rules c.args.size now c.args.travel.now in
-    let is : applied g.row.U c.in_ok-batch.batch rules c.budget.result (q.state c.next_batch.new.destination) ≡ o =
+    let is : outcome_of g.row.U c.in_ok-batch.batch rules c.budget.result (q.state c.next_batch.new.destination) ≡ o =
     rw (c.in_ok-batch.ensures.value, c.from-from.ensures, c.budget.ensures, c.in_ok-batch.ensures.destination.same) (refl {a = o}) in
     let r = c.from_residual-in_err-applied.result in
     let is_err = c.from_residual-in_err-applied.ensures.1 in
@@ -73,7 +73,7 @@ returns-in_err-add g c =
     let rules = rules_view g.M.Merger.meaning c.args.rules.now in
     let now = q.state c.args.destination.now in
     let o = due_outcome g.row.U (p.state c.args.source.now) c.args.mode rules c.args.size now c.args.travel.now in
-    let is : applied g.row.U c.in_ok-batch.batch rules c.budget.result (q.state c.next_batch.new.destination) ≡ o =
+    let is : outcome_of g.row.U c.in_ok-batch.batch rules c.budget.result (q.state c.next_batch.new.destination) ≡ o =
     rw (c.in_ok-batch.ensures.value, c.from-from.ensures, c.budget.ensures, c.in_ok-batch.ensures.destination.same) (refl {a = o}) in
     let r = c.from_residual-in_err-add.result in
     let is_err = c.from_residual-in_err-add.ensures.1 in
@@ -102,7 +102,7 @@ returns-clause-arrives g c =
     let rules = rules_view g.M.Merger.meaning c.args.rules.now in
     let now = q.state c.args.destination.now in
     let o = due_outcome g.row.U (g.P.Provider.state c.args.source.now) c.args.mode rules c.args.size now c.args.travel.now in
-    let is : applied g.row.U c.in_ok-batch.batch rules c.budget.result (q.state c.next_batch.new.destination) ≡ o =
+    let is : outcome_of g.row.U c.in_ok-batch.batch rules c.budget.result (q.state c.next_batch.new.destination) ≡ o =
     rw (c.in_ok-batch.ensures.value, c.from-from.ensures, c.budget.ensures, c.in_ok-batch.ensures.destination.same) (refl {a = o}) in
     arrives_later g.met.Q.Provider.came_read c.in_ok-batch.ensures.destination
     (subst (λ (x : Outcome). Arrives q.state q.kept q.settled q.came c.next_batch.new.destination c.apply.new.destination (committed c.args.group x.moments) x.member) is c.in_ok-applied.ensures.arrives)
@@ -113,7 +113,7 @@ returns-clause-ahead g c =
     let rules = rules_view g.M.Merger.meaning c.args.rules.now in
     let now = g.Q.Provider.state c.args.destination.now in
     let o = due_outcome g.row.U source c.args.mode rules c.args.size now c.args.travel.now in
-    let is : applied g.row.U c.in_ok-batch.batch rules c.budget.result (g.Q.Provider.state c.next_batch.new.destination) ≡ o =
+    let is : outcome_of g.row.U c.in_ok-batch.batch rules c.budget.result (g.Q.Provider.state c.next_batch.new.destination) ≡ o =
     rw (c.in_ok-batch.ensures.value, c.from-from.ensures, c.budget.ensures, c.in_ok-batch.ensures.destination.same) (refl {a = o}) in
     ap (λ (m : Member). ahead_of m (laid_known g.row.U source) source.forgotten) (c.in_ok-applied.ensures.arrives.at ∙ ap (λ (x : Outcome). x.member) is)
     ∙ (ahead_stays now o.member (laid_known g.row.U source) source.forgotten (outcome_stays rules c.requires.skip g.row.U source c.args.mode c.args.size now c.args.travel.now) ∙ c.requires.ahead)

@@ -1,23 +1,23 @@
-use Rattle.std.proofs.Common.{◌≡◌, [], None, ap, inl, sym, refl, subst, length, ◌<◌, le_trans, ◌∙◌, rules as rules_list}
+use Rattle.std.proofs.Common.{◌≡◌, [], None, ap, inl, sym, refl, subst, length, ◌<◌, le_trans, ◌∙◌, rules}
 use Rattle.std.proofs.lemmas.Result.{err_from_is_err_and}
 use Rattle.sfx_ids.specs.declared.cut.Cut.{Cut}
-use Rattle.sfx_model.specs.Readings.{items_from}
-use Rattle.sfx_model.specs.Members.{Member}
-use Rattle.sfx_model.specs.Knowing.{ahead_of, laid_known}
-use Rattle.sfx_model.specs.Moments.{committed, stops}
-use Rattle.sfx_model.specs.Session.{applied_batch, reduced, session_of}
-use Rattle.sfx_model.proofs.Bounds.{less}
-use Rattle.sfx_provider.proofs.Causes.{cause_later}
-use Rattle.sfx_provider.proofs.Exits.{if_ok_never, ok_never, on_err_always, on_fault_always, on_fault_never}
+use Rattle.sfx_model.specs.members.Readings.{items_from}
+use Rattle.sfx_model.specs.members.Members.{Member}
+use Rattle.sfx_model.specs.sessions.MemberKnowledge.{ahead_of, laid_known}
+use Rattle.sfx_model.specs.sessions.Moments.{committed, stops}
+use Rattle.sfx_model.specs.sessions.Session.{applied_data, reduced, session_of}
+use Rattle.sfx_model.proofs.sessions.SessionsEnd.{less}
+use Rattle.sfx_provider.proofs.FaultLemmas.{cause_later}
+use Rattle.sfx_provider.proofs.AnswerLemmas.{if_ok_never, ok_never, on_err_always, on_fault_always, on_fault_never}
 use Rattle.sfx_provider.proofs.LeavesLemmas.{arrives_still, breaks_still, rests_on}
 use Rattle.sfx_provider.specs.Leaves.{Arrives}
-use Rattle.sfx_session.specs.Fault.{blames_destination, blames_source, is_refusal}
+use Rattle.sfx_session.specs.Fault.{blames_destination, blames_source, refuses_session}
 use Rattle.sfx_session.specs.Report.{ReportData, report_of}
 use Rattle.sfx_session.specs.Travel.{TravelData, due_batch, due_outcome, next_arrival, next_travel}
-use Rattle.sfx_session.proofs.Acting.{session_acts}
-use Rattle.sfx_session.proofs.Refusing.{free}
-use Rattle.sfx_session.proofs.Sides.{no_refusal_ahead}
-use Rattle.sfx_session.proofs.Travels.{Ended, batch_breaks, batch_ends, batch_goes, goes_to_place, travel_begins}
+use Rattle.sfx_session.proofs.SessionsAct.{session_acts}
+use Rattle.sfx_session.proofs.RefusalsLemmas.{free}
+use Rattle.sfx_session.proofs.FaultLemmas.{no_refusal_ahead}
+use Rattle.sfx_session.proofs.TravelLemmas.{Ended, batch_breaks, batch_ends, batch_goes, goes_to_place, travel_begins}
 use Rattle.sfx_session.proofs.sessions.session.Goals as goal
 use Rattle.sfx_settle.specs.Rules.{rules_view}
 
@@ -63,7 +63,7 @@ pub returns-in_err-mode-clause-acts : goal.returns-in_err-mode-clause-acts
 returns-in_err-mode-clause-acts g c = ok_never _ _ c.from_residual.result c.from_residual.ensures.1
 
 pub returns-in_err-mode-clause-unchanged : goal.returns-in_err-mode-clause-unchanged
-returns-in_err-mode-clause-unchanged g c = on_fault_always is_refusal c.from_residual.result c.in_err-mode.ensures.destination
+returns-in_err-mode-clause-unchanged g c = on_fault_always refuses_session c.from_residual.result c.in_err-mode.ensures.destination
 
 pub returns-in_err-mode-clause-source : goal.returns-in_err-mode-clause-source
 returns-in_err-mode-clause-source g c = c.in_err-mode.ensures.source
@@ -126,7 +126,7 @@ returns-in_err-end-clause-destination_cause g c =
 pub returns-in_err-end-clause-unchanged : goal.returns-in_err-end-clause-unchanged
 returns-in_err-end-clause-unchanged g c =
     let exit = err_from_is_err_and c.from_residual-in_err-end.result c.from_residual-in_err-end.ensures.1 in
-    on_fault_never _ is_refusal c.from_residual-in_err-end.result (rw (exit.1, exit.2) c.in_err-end.ensures.no_refusal)
+    on_fault_never _ refuses_session c.from_residual-in_err-end.result (rw (exit.1, exit.2) c.in_err-end.ensures.no_refusal)
 
 pub returns-in_err-end-clause-not_ahead : goal.returns-in_err-end-clause-not_ahead
 returns-in_err-end-clause-not_ahead g c =
@@ -149,7 +149,7 @@ returns-in-Some-clause-report g c =
     g.met.Q.Provider.came_on i.travels i.source.same done.end c.in-Some.is done.travel done.arrives in
     let report : c.report.result ≡ report_of g.row.U source first rules c.args.size c.args.cut =
     c.report.ensures ∙ rw (← c.in_ok-mode.ensures.mode, ← ended.steps, ← ended.end_is) refl in
-    search (rules_list, report)
+    search (rules, report)
 
 pub returns-in-Some-clause-arrives : goal.returns-in-Some-clause-arrives
 returns-in-Some-clause-arrives g c =
@@ -185,7 +185,7 @@ returns-in-Some-clause-done g c =
     c.report.ensures ∙ rw (← c.in_ok-mode.ensures.mode, ← ended.steps, ← ended.end_is) refl in
     let done : c.args.cut ≡ None → c.report.result.end ≡ (session_of g.row.U source first rules c.args.size None).end =
     λ none. ap (λ (x : ReportData). x.end) report ∙ rw none refl in
-    search (rules_list, done)
+    search (rules, done)
 
 pub returns-in-Some-clause-acts : goal.returns-in-Some-clause-acts
 returns-in-Some-clause-acts g c =
@@ -268,7 +268,7 @@ batches-preserved g c =
     let travel : c.one_batch.new.travel ≡ next_travel g.row.U source mode rules c.args.size now t = rw i.source.same at done.travel in record {
       travels = batch_goes g.row.U source mode rules c.args.size c.args.group first (session_of g.row.U source first rules c.args.size c.args.cut) now t
           (p.state c.batches.source) c.one_batch.new.travel g.met.Q.Provider.came_on i.travels i.source.same is done.travel done.arrives;
-      place = rw travel (goes_to_place b (applied_batch o) t is);
+      place = rw travel (goes_to_place b (applied_data o) t is);
       ahead = subst (λ (s : Member). ahead_of (q.state c.one_batch.new.destination) (laid_known g.row.U s) s.forgotten ≡ None) i.source.same done.ahead;
       settled = done.arrives.settles;
       source = rests_on g.met.P.Provider.came_read i.source done.source;

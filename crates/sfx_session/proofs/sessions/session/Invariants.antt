@@ -1,10 +1,10 @@
 use Rattle.std.proofs.Common.{◌≡◌, ◌≤◌, None, length}
 use Rattle.sfx_segments.specs.Segments.{IsPlace}
-use Rattle.sfx_model.specs.Knowing.{ahead_of, laid_known}
-use Rattle.sfx_model.specs.Readings.{items_from}
-use Rattle.sfx_model.specs.Session.{session_of}
+use Rattle.sfx_model.specs.sessions.MemberKnowledge.{ahead_of, laid_known}
+use Rattle.sfx_model.specs.members.Readings.{items_from}
+use Rattle.sfx_model.specs.sessions.Session.{session_of}
 use Rattle.sfx_provider.specs.Leaves.{Arrives, Rests}
-use Rattle.sfx_session.proofs.Travels.{Travels}
+use Rattle.sfx_session.proofs.TravelLemmas.{Travels}
 use Rattle.sfx_session.proofs.sessions.session.Given as goal
 use Rattle.sfx_settle.specs.Rules.{rules_view}
 

@@ -1,6 +1,6 @@
 use Rattle.std.proofs.Common.{arith}
-use Rattle.sfx_model.specs.Class.{unit_class}
-use Rattle.sfx_settle.proofs.Testing.{each_more, each_len, unit_is}
+use Rattle.sfx_model.specs.sessions.Class.{unit_class}
+use Rattle.sfx_settle.proofs.UnitTests.{each_more, each_len, unit_is}
 use Rattle.sfx_settle.proofs.change.unit_classes.Goals as goal
 
 pub loop-index-preserved : goal.loop-index-preserved

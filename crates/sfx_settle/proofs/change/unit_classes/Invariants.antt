@@ -1,6 +1,6 @@
 use Rattle.std.proofs.Common.{◌≡◌, map}
 use Rattle.std.specs.List.{range_with_len}
-use Rattle.sfx_model.specs.Class.{unit_class}
+use Rattle.sfx_model.specs.sessions.Class.{unit_class}
 use Rattle.sfx_settle.proofs.change.unit_classes.Given as goal
 
 abbrev pub invariant-loop-index : goal.invariant-loop-index

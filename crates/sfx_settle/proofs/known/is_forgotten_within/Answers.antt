@@ -1,7 +1,7 @@
 use Rattle.sfx_knowledge.specs.Forgotten.{IsForgottenWithinAt}
-use Rattle.sfx_model.specs.Class.{is_forgotten_within}
-use Rattle.sfx_model.proofs.Knowing.{forgotten_within_decided}
-use Rattle.sfx_settle.proofs.Testing.{same_test}
+use Rattle.sfx_model.specs.sessions.Class.{is_forgotten_within}
+use Rattle.sfx_model.proofs.sessions.MemberKnowledgeLemmas.{forgotten_within_decided}
+use Rattle.sfx_settle.proofs.UnitTests.{same_test}
 use Rattle.sfx_settle.proofs.known.is_forgotten_within.Goals as goal
 
 pub returns : goal.returns

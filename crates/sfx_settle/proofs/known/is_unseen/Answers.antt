@@ -1,6 +1,6 @@
 use Rattle.std.proofs.Common.{◌≡◌, ℕ, true, sym, subst}
-use Rattle.sfx_model.specs.Readings.{is_unseen_at}
-use Rattle.sfx_settle.proofs.Testing.{some_found, unit_is}
+use Rattle.sfx_model.specs.members.Readings.{is_unseen_at}
+use Rattle.sfx_settle.proofs.UnitTests.{some_found, unit_is}
 use Rattle.sfx_settle.proofs.known.is_unseen.Goals as goal
 
 pub returns-then-is_unseen_at : goal.returns-then-is_unseen_at

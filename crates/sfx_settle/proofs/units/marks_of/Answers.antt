@@ -1,8 +1,8 @@
 use Rattle.std.proofs.Common.{◌∙◌, ap, arith, length}
 use Rattle.std.proofs.lemmas.List.{length-map}
 use Rattle.std.proofs.lemmas.Result.{err_from_is_err_and}
-use Rattle.sfx_model.specs.Draft.{unit_mark}
-use Rattle.sfx_settle.proofs.Marking.{mapped_all, mapped_more}
+use Rattle.sfx_model.specs.sessions.Draft.{unit_mark}
+use Rattle.sfx_settle.proofs.StandardFacts.{mapped_all, mapped_more}
 use Rattle.sfx_settle.proofs.units.marks_of.Goals as goal
 
 pub returns-in_err-marks : goal.returns-in_err-marks

@@ -1,10 +1,10 @@
 use Rattle.std.proofs.Common.{ℕ, refl}
 use Rattle.sfx_model.specs.declared.unit_class.UnitClass.TheVariants.{Known}
-use Rattle.sfx_model.specs.Draft.{unit_value, value_in}
-use Rattle.sfx_model.specs.Units.{at_unit}
+use Rattle.sfx_model.specs.sessions.Draft.{unit_value, value_in}
+use Rattle.sfx_model.specs.world.Units.{at_unit}
 use Rattle.sfx_settle.specs.Rules.{rules_view}
-use Rattle.sfx_settle.proofs.Testing.{each_more, unit_is}
-use Rattle.sfx_settle.proofs.Valued.{value_found}
+use Rattle.sfx_settle.proofs.UnitTests.{each_more, unit_is}
+use Rattle.sfx_settle.proofs.SettledValues.{value_found}
 use Rattle.sfx_settle.proofs.units.values_of.Goals as goal
 
 pub loop-index-preserved : goal.loop-index-preserved

@@ -1,8 +1,8 @@
 use Rattle.std.proofs.Common.{◌≡◌, map}
 use Rattle.std.specs.List.{range_with_len}
 use Rattle.sfx_model.specs.declared.unit_class.UnitClass.TheVariants.{Known}
-use Rattle.sfx_model.specs.Draft.{unit_value, value_in}
-use Rattle.sfx_model.specs.Units.{at_unit}
+use Rattle.sfx_model.specs.sessions.Draft.{unit_value, value_in}
+use Rattle.sfx_model.specs.world.Units.{at_unit}
 use Rattle.sfx_settle.specs.Rules.{rules_view}
 use Rattle.sfx_settle.proofs.units.values_of.Given as goal
 

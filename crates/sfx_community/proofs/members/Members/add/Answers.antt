@@ -2,7 +2,7 @@ use Rattle.std.proofs.Common.{List, [], ◌∷◌, ◌++◌, ap, sym, ◌∙◌}
 use Rattle.sfx_replica.specs.Edits.{new_member}
 use Rattle.sfx_community.specs.State.{KeptMember, as_record, kept_as, members_view, state_among}
 use Rattle.sfx_community.specs.Turn.{Turn}
-use Rattle.sfx_community.proofs.Joining.{asked_name, id_turn, insert_new, joined_turn, name_turn}
+use Rattle.sfx_community.proofs.JoinTurns.{asked_name, id_turn, insert_new, joined_turn, name_turn}
 use Rattle.sfx_community.proofs.members.Members.add.Goals as goal
 
 pub returns-then-contains_key-clause-reply : goal.returns-then-contains_key-clause-reply

@@ -3,7 +3,7 @@ use Rattle.sfx_reply.specs.declared.reason.Reason.TheVariants.{BadCount}
 use Rattle.sfx_reply.specs.declared.reply.Reply.TheVariants.{Created, Refused}
 use Rattle.sfx_community.specs.State.{members_with, state_among}
 use Rattle.sfx_community.specs.Turn.{Turn}
-use Rattle.sfx_community.proofs.Editing.{created_turn, err_anyhow, finds, none_found, refusal_after, refusal_reply, rests, uncounted, uncreated_turn}
+use Rattle.sfx_community.proofs.EditTurns.{created_turn, err_anyhow, finds, none_found, refusal_after, refusal_reply, rests, uncounted, uncreated_turn}
 use Rattle.sfx_community.proofs.members.Members.create.Goals as goal
 
 pub returns-in_default-clause-reply : goal.returns-in_default-clause-reply

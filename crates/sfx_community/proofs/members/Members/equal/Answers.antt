@@ -1,6 +1,6 @@
 use Rattle.std.proofs.Common.{Some, ap, sym, ◌∙◌, option_map}
 use Rattle.sfx_community.specs.State.{kept_as}
-use Rattle.sfx_community.proofs.Compared.{compared, compared_items}
+use Rattle.sfx_community.proofs.SamenessLemmas.{compared, compared_items}
 use Rattle.sfx_community.proofs.members.Members.equal.Goals as goal
 
 pub returns : goal.returns

@@ -1,6 +1,6 @@
 use Rattle.std.proofs.Common.{List, ap, ◌∙◌}
 use Rattle.sfx_community.specs.State.{KeptMember, member_of}
-use Rattle.sfx_community.proofs.Entries.{found_copied}
+use Rattle.sfx_community.proofs.MapEntries.{found_copied}
 use Rattle.sfx_community.proofs.members.Members.find.Goals as goal
 
 pub returns : goal.returns

@@ -1,7 +1,7 @@
 use Rattle.std.proofs.Common.{List, slice_get, refl, ap, sym, ◌∙◌}
-use Rattle.sfx_model.specs.Knowing.{names_id}
+use Rattle.sfx_model.specs.sessions.MemberKnowledge.{names_id}
 use Rattle.sfx_community.specs.State.{KeptData, KeptMember}
-use Rattle.sfx_community.proofs.Entries.{entry_member, no_entry}
+use Rattle.sfx_community.proofs.MapEntries.{entry_member, no_entry}
 use Rattle.sfx_community.proofs.members.Members.names_at.Goals as goal
 
 pub returns-in-Some : goal.returns-in-Some

@@ -1,7 +1,7 @@
 use Rattle.std.proofs.Common.{List, [], ◌∷◌, ◌++◌, ap, ◌∙◌}
 use Rattle.sfx_community.specs.State.{KeptMember, has_name, kept_as, members_view}
-use Rattle.sfx_community.proofs.Entries.{name_taken}
-use Rattle.sfx_community.proofs.Joining.{insert_new}
+use Rattle.sfx_community.proofs.MapEntries.{name_taken}
+use Rattle.sfx_community.proofs.JoinTurns.{insert_new}
 use Rattle.sfx_community.proofs.members.Members.push.Goals as goal
 
 pub returns : goal.returns

@@ -1,6 +1,6 @@
 use Rattle.std.proofs.Common.{Some, ap, sym, ◌∙◌}
-use Rattle.sfx_community.proofs.Editing.{finds, none_found}
-use Rattle.sfx_community.proofs.Sessions.{unchanged}
+use Rattle.sfx_community.proofs.EditTurns.{finds, none_found}
+use Rattle.sfx_community.proofs.SessionTurns.{unchanged}
 use Rattle.sfx_community.proofs.members.Members.put.Goals as goal
 
 pub returns-in-Some : goal.returns-in-Some

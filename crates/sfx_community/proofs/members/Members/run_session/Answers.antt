@@ -1,5 +1,5 @@
 use Rattle.std.proofs.Common.{Err, ap}
-use Rattle.sfx_community.proofs.Sessions.{both_there, met_after, met_reply, unmet_after, unmet_reply}
+use Rattle.sfx_community.proofs.SessionTurns.{both_there, met_after, met_reply, unmet_after, unmet_reply}
 use Rattle.sfx_community.proofs.members.Members.run_session.Goals as goal
 
 pub returns-in-Ok-clause-reply : goal.returns-in-Ok-clause-reply

@@ -2,7 +2,7 @@ use Rattle.std.proofs.Common.{Some, refl, sym, ap, ◌∙◌}
 use Rattle.sfx_reply.specs.declared.reply.Reply.TheVariants.{Changed}
 use Rattle.sfx_community.specs.State.{members_with, state_among}
 use Rattle.sfx_community.specs.Turn.{Turn}
-use Rattle.sfx_community.proofs.Editing.{edited_turn, err_anyhow, finds, none_found, refusal_after, refusal_reply, rests, unedited_turn}
+use Rattle.sfx_community.proofs.EditTurns.{edited_turn, err_anyhow, finds, none_found, refusal_after, refusal_reply, rests, unedited_turn}
 use Rattle.sfx_community.proofs.members.Members.set.Goals as goal
 
 pub returns-in_default-clause-reply : goal.returns-in_default-clause-reply

@@ -1,15 +1,15 @@
 use Rattle.std.proofs.Common.{ap, refl, ◌∙◌, Err}
 use Rattle.sfx_script.specs.Reading.{reading_of}
-use Rattle.sfx_community.proofs.Joining.{read_turn, wrong_turn}
+use Rattle.sfx_community.proofs.JoinTurns.{read_turn, wrong_turn}
 use Rattle.sfx_community.proofs.state.State.turn.Goals as goal
 
 pub returns-in-Ok-clause-reply : goal.returns-in-Ok-clause-reply
 returns-in-Ok-clause-reply c =
-    rw (read_turn c.args.self.now (reading_of c.args.line.now) c.in-Ok.line c.in-Ok.ensures.ok) c.answer.ensures.reply
+    rw (read_turn c.args.self.now (reading_of c.args.line.now) c.in-Ok.line c.in-Ok.ensures.ok) c.run_read_line.ensures.reply
 
 pub returns-in-Ok-clause-after : goal.returns-in-Ok-clause-after
 returns-in-Ok-clause-after c =
-    rw (read_turn c.args.self.now (reading_of c.args.line.now) c.in-Ok.line c.in-Ok.ensures.ok) c.answer.ensures.after
+    rw (read_turn c.args.self.now (reading_of c.args.line.now) c.in-Ok.line c.in-Ok.ensures.ok) c.run_read_line.ensures.after
 
 pub returns-in-Err-Syntax-clause-reply : goal.returns-in-Err-Syntax-clause-reply
 returns-in-Err-Syntax-clause-reply c =

@@ -1,9 +1,9 @@
 use Rattle.std.proofs.Common.{◌≡◌, [], ap, ◌∙◌, subst}
 use Rattle.sfx_segments.specs.Segments.{SetsRange}
 use Rattle.sfx_knowledge.specs.Knowledge.{no_row}
-use Rattle.sfx_knowledge.proofs.RowForms.{made}
-use Rattle.sfx_knowledge.proofs.Known.{IsRow-no_row}
-use Rattle.sfx_knowledge.proofs.Ranged.{form-set}
+use Rattle.sfx_knowledge.proofs.RowLemmas.{made}
+use Rattle.sfx_knowledge.proofs.KnowledgeLemmas.{IsRow-no_row}
+use Rattle.sfx_knowledge.proofs.PlacesLemmas.{form-set}
 use Rattle.sfx_knowledge.proofs.knowledge.Knowledge.clear.Goals as goal
 
 pub invariant_of-self-2 : goal.invariant_of-self-2

@@ -1,7 +1,7 @@
 use Rattle.std.proofs.Common.{◌≤◌, ◌∙◌, true≢false, refl, sym, ap, subst, arith, length, slice_get, option_map}
 use Rattle.sfx_segments.specs.Segments.{AreSegments}
 use Rattle.sfx_knowledge.specs.Row.{VectorWithin}
-use Rattle.sfx_knowledge.proofs.Starts.{row_of_every, every_row}
+use Rattle.sfx_knowledge.proofs.SegmentStarts.{row_of_every, every_row}
 use Rattle.sfx_knowledge.proofs.knowledge.Knowledge.contain_everywhere.Goals as goal
 
 pub returns-then-not-contain : goal.returns-then-not-contain

@@ -1,5 +1,5 @@
 use Rattle.std.proofs.Common.{◌∙◌, true≢false, sym}
-use Rattle.sfx_knowledge.proofs.Starts.{at_starts_all, all_at_starts}
+use Rattle.sfx_knowledge.proofs.SegmentStarts.{at_starts_all, all_at_starts}
 use Rattle.sfx_knowledge.proofs.knowledge.Knowledge.contains_all.Goals as goal
 
 pub returns-then-within_at_starts-clause-value : goal.returns-then-within_at_starts-clause-value

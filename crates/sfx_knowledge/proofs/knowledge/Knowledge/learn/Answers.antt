@@ -1,7 +1,7 @@
 use Rattle.std.proofs.Common.{◌≡◌, ◌+◌, sym, ap, ◌∙◌, subst, take, [], ◌∷◌, ◌++◌}
 use Rattle.std.proofs.lemmas.List.{take_more, take_all}
-use Rattle.sfx_knowledge.specs.Knowledge.{Known, IsKnowledge, HasTicks, tick_at, learned}
-use Rattle.sfx_knowledge.proofs.Ranged.{learned_none, learned_restored, learned_outside}
+use Rattle.sfx_knowledge.specs.Knowledge.{Known, IsKnowledge, HasTicks, tick_at, learned_ticks}
+use Rattle.sfx_knowledge.proofs.PlacesLemmas.{learned_none, learned_restored, learned_outside}
 use Rattle.sfx_knowledge.proofs.knowledge.Knowledge.learn.Goals as goal
 use Rattle.sfx_knowledge.proofs.knowledge.Knowledge.learn.Goals.{then-in_range+in_ok-restore, else-in_range}
 
@@ -29,15 +29,15 @@ loop-cell-preserved g c =
       | then-in_range+in_ok-restore w ↦ record {
         form = subst (IsKnowledge units) (sym w.learned-is) w.in_ok-restore.ensures.form;
         ticks =
-            subst (λ (k : Known). HasTicks units k (learned lo hi (take (i + 1) items) (tick_at here) there)) (sym w.learned-is)
-            (subst (λ ss. HasTicks units w.restore.new.self (learned lo hi ss (tick_at here) there)) (sym more)
+            subst (λ (k : Known). HasTicks units k (learned_ticks lo hi (take (i + 1) items) (tick_at here) there)) (sym w.learned-is)
+            (subst (λ ss. HasTicks units w.restore.new.self (learned_ticks lo hi ss (tick_at here) there)) (sym more)
             (learned_restored units c.loop-cell.learned w.restore.new.self here there lo hi (take i items) cell c.loop-cell.invariant.ticks w.in_ok-restore.ensures.ok));
       }
       | else-in_range w ↦ record {
         form = subst (IsKnowledge units) (sym w.learned-is) c.loop-cell.invariant.form;
         ticks =
-            subst (λ (k : Known). HasTicks units k (learned lo hi (take (i + 1) items) (tick_at here) there)) (sym w.learned-is)
-            (subst (λ ss. HasTicks units c.loop-cell.learned (learned lo hi ss (tick_at here) there)) (sym more)
+            subst (λ (k : Known). HasTicks units k (learned_ticks lo hi (take (i + 1) items) (tick_at here) there)) (sym w.learned-is)
+            (subst (λ ss. HasTicks units c.loop-cell.learned (learned_ticks lo hi ss (tick_at here) there)) (sym more)
             (learned_outside units c.loop-cell.learned here there lo hi (take i items) cell (sym c.in_range.ensures ∙ w.if-in_range.false) c.loop-cell.invariant.ticks));
       }
     ]
@@ -47,5 +47,5 @@ returns-clause-ticks g c =
     let items = c.cells-cell-items.result.now in
     let all : take c.loop-cell.cell-index items ≡ c.args.skipped.now =
     take_all c.loop-cell.cell-index items c.loop-cell-test.false ∙ c.cells-cell-items.ensures.value in
-    subst (λ ss. HasTicks g.row.U c.loop-cell.learned (learned c.args.lo.now c.args.hi.now ss (tick_at c.args.self.now) (tick_at c.args.from.now))) all
+    subst (λ ss. HasTicks g.row.U c.loop-cell.learned (learned_ticks c.args.lo.now c.args.hi.now ss (tick_at c.args.self.now) (tick_at c.args.from.now))) all
     c.loop-cell.invariant.ticks

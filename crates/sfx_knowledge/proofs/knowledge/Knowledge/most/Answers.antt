@@ -1,6 +1,6 @@
 use Rattle.std.proofs.Common.{◌≤◌, ap, subst, arith, length}
 use Rattle.sfx_segments.specs.Segments.{AreSegments}
-use Rattle.sfx_knowledge.proofs.Starts.{most_all}
+use Rattle.sfx_knowledge.proofs.SegmentStarts.{most_all}
 use Rattle.sfx_knowledge.proofs.knowledge.Knowledge.most.Goals as goal
 
 pub returns-clause-value : goal.returns-clause-value

@@ -1,4 +1,4 @@
-use Rattle.sfx_knowledge.proofs.Starts.{MostUpTo}
+use Rattle.sfx_knowledge.proofs.SegmentStarts.{MostUpTo}
 use Rattle.sfx_knowledge.proofs.knowledge.Knowledge.most.Given as goal
 
 abbrev pub invariant-loop-i : goal.invariant-loop-i

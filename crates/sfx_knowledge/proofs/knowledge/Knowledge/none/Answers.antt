@@ -1,8 +1,8 @@
 use Rattle.std.proofs.Common.{[], sym, ap, ◌∙◌, subst}
 use Rattle.sfx_segments.specs.Segments.{HaveEverywhere}
 use Rattle.sfx_knowledge.specs.Knowledge.{IsKnowledge}
-use Rattle.sfx_knowledge.proofs.RowForms.{made}
-use Rattle.sfx_knowledge.proofs.Known.{nothing_is, IsKnowledge-nothing}
+use Rattle.sfx_knowledge.proofs.RowLemmas.{made}
+use Rattle.sfx_knowledge.proofs.KnowledgeLemmas.{nothing_is, IsKnowledge-nothing}
 use Rattle.sfx_knowledge.proofs.knowledge.Knowledge.none.Goals as goal
 
 pub invariant_of-result : goal.invariant_of-result

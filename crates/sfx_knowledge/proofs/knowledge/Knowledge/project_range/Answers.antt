@@ -1,6 +1,6 @@
 use Rattle.std.proofs.Common.{subst}
 use Rattle.sfx_knowledge.specs.Knowledge.{HasTicks, projected, tick_at}
-use Rattle.sfx_knowledge.proofs.Ranged.{ticks-projected}
+use Rattle.sfx_knowledge.proofs.PlacesLemmas.{ticks-projected}
 use Rattle.sfx_knowledge.proofs.knowledge.Knowledge.project_range.Goals as goal
 
 pub returns-clause-ticks : goal.returns-clause-ticks

@@ -1,10 +1,10 @@
 use Rattle.std.proofs.Common.{sym, ◌∙◌, subst}
 use Rattle.sfx_ids.specs.declared.cut.Cut.TheVariants.{At, After}
-use Rattle.sfx_segments.proofs.Places.{segment_at-value_at}
+use Rattle.sfx_segments.proofs.PlaceValues.{segment_at-value_at}
 use Rattle.sfx_knowledge.specs.Row.{ChangesUnit}
 use Rattle.sfx_knowledge.specs.Knowledge.{no_row}
 use Rattle.sfx_knowledge.specs.Places.{Restores}
-use Rattle.sfx_knowledge.proofs.Ranged.{form-set, restored}
+use Rattle.sfx_knowledge.proofs.PlacesLemmas.{form-set, restored}
 use Rattle.sfx_knowledge.proofs.knowledge.Knowledge.restore.Goals as goal
 
 pub invariant_of-self-2 : goal.invariant_of-self-2

@@ -1,6 +1,6 @@
 use Rattle.std.proofs.Common.{refl, subst}
 use Rattle.sfx_knowledge.specs.Knowledge.{KnowAlike}
-use Rattle.sfx_knowledge.proofs.Known.{one_knowledge}
+use Rattle.sfx_knowledge.proofs.KnowledgeLemmas.{one_knowledge}
 use Rattle.sfx_knowledge.proofs.knowledge.Knowledge.same.Goals as goal
 
 pub returns-clause-alike : goal.returns-clause-alike

@@ -1,5 +1,5 @@
 use Rattle.std.proofs.Common.{◌≡◌, ◌∙◌, refl, sym, ap, arith, length}
-use Rattle.sfx_knowledge.proofs.Starts.{same_by_index}
+use Rattle.sfx_knowledge.proofs.SegmentStarts.{same_by_index}
 use Rattle.sfx_knowledge.proofs.knowledge.Knowledge.same_segments.Goals as goal
 
 pub returns-clause-list : goal.returns-clause-list

@@ -1,6 +1,6 @@
 use Rattle.std.proofs.Common.{subst}
 use Rattle.sfx_knowledge.specs.Knowledge.{HasTicks, tick_at, joined}
-use Rattle.sfx_knowledge.proofs.Known.{rows-joined, ticks-joined}
+use Rattle.sfx_knowledge.proofs.KnowledgeLemmas.{rows-joined, ticks-joined}
 use Rattle.sfx_knowledge.proofs.knowledge.Knowledge.union.Goals as goal
 
 pub invariant_of-result : goal.invariant_of-result

@@ -2,8 +2,8 @@ use Rattle.std.proofs.Common.{◌≡◌, subst}
 use Rattle.sfx_knowledge.specs.Knowledge.{HasTicks, tick_at, laid_over}
 use Rattle.sfx_knowledge.specs.Forms.{with_own}
 use Rattle.sfx_knowledge.specs.Vectors.{clock_of}
-use Rattle.sfx_knowledge.proofs.Known.{rows-own, ticks-own}
-use Rattle.sfx_knowledge.proofs.Making.{own_known_is}
+use Rattle.sfx_knowledge.proofs.KnowledgeLemmas.{rows-own, ticks-own}
+use Rattle.sfx_knowledge.proofs.FormsLemmas.{own_known_is}
 use Rattle.sfx_knowledge.proofs.knowledge.Knowledge.with_tick.Goals as goal
 
 pub invariant_of-result : goal.invariant_of-result

@@ -1,10 +1,10 @@
 use Rattle.std.proofs.Common.{◌≡◌, ◌≤◌, ◌∙◌, true≢false, refl, sym, ap, subst, arith, length, slice_get, option_map}
 use Rattle.sfx_segments.specs.Segments.{segment_at}
-use Rattle.sfx_segments.proofs.Places.{segment_at-value_at}
-use Rattle.sfx_knowledge.specs.Row.{UnitClocks, RowWithin}
+use Rattle.sfx_segments.proofs.PlaceValues.{segment_at-value_at}
+use Rattle.sfx_knowledge.specs.Row.{UnitRowData, RowWithin}
 use Rattle.sfx_knowledge.specs.Knowledge.{no_row}
 use Rattle.sfx_knowledge.specs.Places.{WithinAt}
-use Rattle.sfx_knowledge.proofs.Starts.{start_of_each, each_start}
+use Rattle.sfx_knowledge.proofs.SegmentStarts.{start_of_each, each_start}
 use Rattle.sfx_knowledge.proofs.knowledge.Knowledge.within_at_starts.Goals as goal
 
 pub returns-then-not-within-clause-value : goal.returns-then-not-within-clause-value
@@ -18,8 +18,8 @@ returns-then-not-within-clause-value g c =
     ap (λ xs. segment_at no_row xs place) (sym c.other.view_is) ∙ segment_at-value_at c.other.inside.segments no_row c.get-in-loop-i.result.now place c.get-in-loop-i.ensures.value in (
       λ no. absurd (true≢false (sym no)),
       λ all. absurd (true≢false (sym (c.within.ensures.1
-          (subst (λ (row : UnitClocks). RowWithin units row c.get-in-loop-i.result.now) here
-          (subst (λ (row : UnitClocks). RowWithin units (segment_at no_row c.args.self.now place) row) there
+          (subst (λ (row : UnitRowData). RowWithin units row c.get-in-loop-i.result.now) here
+          (subst (λ (row : UnitRowData). RowWithin units (segment_at no_row c.args.self.now place) row) there
           (start_of_each known c.loop-i.i place (WithinAt units c.args.self.now c.args.other.now)
           (ap (λ xs. option_map (λ s. s.0) (slice_get xs c.loop-i.i)) (sym c.starts.view_is) ∙ c.start-place.ensures.start) all)))) ∙ c.if-not-within.true)),
     )

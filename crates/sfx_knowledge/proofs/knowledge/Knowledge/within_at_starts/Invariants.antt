@@ -1,5 +1,5 @@
 use Rattle.sfx_knowledge.specs.Places.{WithinAt}
-use Rattle.sfx_knowledge.proofs.Starts.{EachUpTo}
+use Rattle.sfx_knowledge.proofs.SegmentStarts.{EachUpTo}
 use Rattle.sfx_knowledge.proofs.knowledge.Knowledge.within_at_starts.Given as goal
 
 abbrev pub invariant-loop-i : goal.invariant-loop-i

@@ -2,7 +2,7 @@ use Rattle.std.proofs.Common.{◌≡◌, ◌∙◌, ℕ, false, sym, ap, subst, 
 use Rattle.std.specs.List.{insert}
 use Rattle.sfx_ids.specs.declared.item_id.ItemId.{ItemId}
 use Rattle.sfx_knowledge.specs.Skips.{is_skipped, cell_place, AreSkips, AddsSkip}
-use Rattle.sfx_knowledge.proofs.SkipForms.{place-within, AreSkips-insert, added}
+use Rattle.sfx_knowledge.proofs.SkipsLemmas.{place-within, AreSkips-insert, added}
 use Rattle.sfx_knowledge.proofs.skips.Skips.add.Goals as goal
 
 pub insert-requires : goal.insert-requires

@@ -1,6 +1,6 @@
 use Rattle.std.proofs.Common.{◌≡◌, refl, ◌∙◌}
 use Rattle.std.proofs.lemmas.List.{take_all}
-use Rattle.sfx_segments.proofs.Getting.{copied_more}
+use Rattle.sfx_segments.proofs.ValueLookup.{copied_more}
 use Rattle.sfx_knowledge.proofs.unit_row.UnitRow.copy.Goals as goal
 
 pub loop-other-preserved : goal.loop-other-preserved

@@ -1,6 +1,6 @@
 use Rattle.std.proofs.Common.{◌<◌, sym, subst}
 use Rattle.sfx_knowledge.specs.Row.{ChangesUnit}
-use Rattle.sfx_knowledge.proofs.RowForms.{put_is}
+use Rattle.sfx_knowledge.proofs.RowLemmas.{put_is}
 use Rattle.sfx_knowledge.proofs.unit_row.UnitRow.put.Goals as goal
 
 pub returns-clause-ok : goal.returns-clause-ok

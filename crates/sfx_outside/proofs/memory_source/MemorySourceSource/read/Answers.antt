@@ -23,7 +23,7 @@ returns c =
           c.min-count.result
           (rw left at c.min.ensures)
           c.min-count.ensures;
-      bytes = ap (λ front. front ++ drop c.min-count.result c.args.into.now) (rw left at c.copy_from_slice.ensures.after);
+      bytes = ap (λ prefix. prefix ++ drop c.min-count.result c.args.into.now) (rw left at c.copy_from_slice.ensures.after);
       after = rw (c.next_fails.ensures.fails, c.next_fails.ensures.made, faults, drop-drop c.min-count.result inside.at inside.bytes.items) refl;
       fault = tt;
       untouched = tt;

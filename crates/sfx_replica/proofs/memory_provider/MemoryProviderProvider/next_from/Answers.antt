@@ -1,5 +1,5 @@
 use Rattle.std.proofs.lemmas.Result.{err_from_is_err_and}
-use Rattle.sfx_replica.proofs.Calling.{reads_failed, reads_memory, reads_ok}
+use Rattle.sfx_replica.proofs.CountedCalls.{reads_failed, reads_memory, reads_ok}
 use Rattle.sfx_replica.proofs.memory_provider.MemoryProviderProvider.next_from.Goals as goal
 
 pub returns-in_err-begin-clause-call : goal.returns-in_err-begin-clause-call

@@ -1,8 +1,8 @@
 use Rattle.std.proofs.Common.{ap, sym, ◌∙◌}
 use Rattle.std.specs.Option.{option_copied}
-use Rattle.sfx_item.proofs.Decisions.{fault_decided}
-use Rattle.sfx_model.specs.Members.{Member}
-use Rattle.sfx_replica.proofs.Consistency.{refused_name, refused_clash, accepted_name}
+use Rattle.sfx_item.proofs.NamesAreDecided.{fault_decided}
+use Rattle.sfx_model.specs.members.Members.{Member}
+use Rattle.sfx_replica.proofs.EditsKeepConsistency.{refused_name, refused_clash, accepted_name}
 use Rattle.sfx_replica.proofs.replica.Replica.check_name.Goals as goal
 
 pub returns-in-Err-BadName : goal.returns-in-Err-BadName

@@ -1,13 +1,13 @@
 use Rattle.std.proofs.Common.{◌≡◌, ◌∙◌, List, ap, arith, sym, subst, refl}
 use Rattle.std.proofs.lemmas.Result.{err_from_is_err_and}
 use Rattle.sfx_item.specs.declared.item.Item.{Item}
-use Rattle.sfx_items.proofs.ItemListLemmas.{puts_rising}
-use Rattle.sfx_model.specs.Members.{Member}
-use Rattle.sfx_model.specs.Putting.{drop_all, put_all}
-use Rattle.sfx_provider.specs.Commit.{CommitData, committed}
-use Rattle.sfx_provider.specs.Fits.{Fits}
+use Rattle.sfx_items.proofs.ItemListLemmas.{puts_ascending}
+use Rattle.sfx_model.specs.members.Members.{Member}
+use Rattle.sfx_model.specs.members.ItemLists.{drop_all, put_all}
+use Rattle.sfx_provider.specs.Commit.{CommitData, after_commit}
+use Rattle.sfx_provider.specs.Fits.{FitsMember}
 use Rattle.sfx_replica.specs.Replica.{member_view}
-use Rattle.sfx_replica.proofs.Consistency.{installed_consistent}
+use Rattle.sfx_replica.proofs.EditsKeepConsistency.{installed_consistent}
 use Rattle.sfx_replica.proofs.replica.Replica.install.Goals as goal
 
 pub drop_all-requires : goal.drop_all-requires
@@ -16,7 +16,7 @@ drop_all-requires g c =
     c.as_slice-2.ensures.value ∙ ap (λ (x : CommitData). x.drops) c.commit.view_is in (
       omega arith,
       (
-        rw c.in_ok-put_all.ensures.ok (puts_rising c.in_ok-puts.puts.items c.self.inside.items.items c.self.invariant.rising),
+        rw c.in_ok-put_all.ensures.ok (puts_ascending c.in_ok-puts.puts.items c.self.inside.items.items c.self.invariant.ascending),
         rw drops c.requires.fits.drops,
       ),
     )
@@ -24,14 +24,14 @@ drop_all-requires g c =
 pub invariant_of-self-2 : goal.invariant_of-self-2
 invariant_of-self-2 g c =
     let m = member_view c.self.inside.id c.self.inside.clock c.self.inside.knowledge c.self.inside.forgotten c.self.inside.items.items in
-    let fits : Fits g.row.U c.args.commit.now m = subst (λ (x : Member). Fits g.row.U c.args.commit.now x) (sym c.self.view_is) c.requires.fits in
+    let fits : FitsMember g.row.U c.args.commit.now m = subst (λ (x : Member). FitsMember g.row.U c.args.commit.now x) (sym c.self.view_is) c.requires.fits in
     let put : c.put_all.new.items.items ≡ put_all c.commit.inside.puts.items m.items =
     rw (c.in_ok-put_all.ensures.ok, c.in_ok-puts.ensures, c.as_slice.ensures.value) refl in
     let items : c.drop_all.new.items.items ≡ drop_all c.commit.inside.drops.items (put_all c.commit.inside.puts.items m.items) =
     rw (c.drop_all.ensures, c.as_slice-2.ensures.value, put) refl in
     let commit : CommitData = record { clock = c.commit.inside.clock; knowledge = c.commit.inside.knowledge; forgotten = c.commit.inside.forgotten; puts = c.commit.inside.puts.items; drops = c.commit.inside.drops.items } in
     installed_consistent g.row.U commit m c.in_ok-knowledge.knowledge c.in_ok-forgotten.forgotten c.drop_all.new.items.items
-    c.self.invariant (subst (λ (x : CommitData). Fits g.row.U x m) (sym c.commit.view_is) fits)
+    c.self.invariant (subst (λ (x : CommitData). FitsMember g.row.U x m) (sym c.commit.view_is) fits)
     c.in_ok-knowledge.ensures.form c.in_ok-knowledge.ensures.ticks c.in_ok-knowledge.ensures.list c.in_ok-forgotten.ensures items
 
 pub returns-in_err-knowledge-clause-ok : goal.returns-in_err-knowledge-clause-ok
@@ -78,9 +78,9 @@ returns-clause-ok g c =
     rw (c.drop_all.ensures, c.as_slice-2.ensures.value, put) refl in
     let commit : CommitData = record { clock = c.commit.inside.clock; knowledge = c.commit.inside.knowledge; forgotten = c.commit.inside.forgotten; puts = c.commit.inside.puts.items; drops = c.commit.inside.drops.items } in
     let after = member_view c.self.inside.id c.commit.inside.clock c.in_ok-knowledge.knowledge c.in_ok-forgotten.forgotten c.drop_all.new.items.items in
-    let now : after ≡ committed g.row.U commit m = rw (c.in_ok-knowledge.ensures.list, c.in_ok-forgotten.ensures, items) refl in
-    subst (λ (x : Member). after ≡ committed g.row.U c.args.commit.now x) c.self.view_is
-    (subst (λ (x : CommitData). after ≡ committed g.row.U x m) c.commit.view_is now)
+    let now : after ≡ after_commit g.row.U commit m = rw (c.in_ok-knowledge.ensures.list, c.in_ok-forgotten.ensures, items) refl in
+    subst (λ (x : Member). after ≡ after_commit g.row.U c.args.commit.now x) c.self.view_is
+    (subst (λ (x : CommitData). after ≡ after_commit g.row.U x m) c.commit.view_is now)
 
 pub returns-clause-err : goal.returns-clause-err
 returns-clause-err g c = tt

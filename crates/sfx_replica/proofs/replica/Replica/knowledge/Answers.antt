@@ -2,7 +2,7 @@ use Rattle.std.proofs.Common.{◌≡◌, subst}
 use Rattle.std.specs.Prelude.{IfOk}
 use Rattle.sfx_knowledge.specs.Forms.{with_own}
 use Rattle.sfx_knowledge.specs.Knowledge.{HasTicks}
-use Rattle.sfx_model.specs.Members.{Member, vector_at}
+use Rattle.sfx_model.specs.members.Members.{Member, vector_at}
 use Rattle.sfx_replica.proofs.replica.Replica.knowledge.Goals as goal
 
 pub returns-clause-ticks : goal.returns-clause-ticks

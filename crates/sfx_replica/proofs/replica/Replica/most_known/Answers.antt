@@ -1,7 +1,7 @@
 use Rattle.std.proofs.Common.{◌∙◌, ap, max, lit≤}
-use Rattle.sfx_model.specs.Knowing.{most_known}
-use Rattle.sfx_model.specs.Members.{Member}
-use Rattle.sfx_model.proofs.Most.{most_known_is}
+use Rattle.sfx_model.specs.sessions.MemberKnowledge.{most_known}
+use Rattle.sfx_model.specs.members.Members.{Member}
+use Rattle.sfx_model.proofs.sessions.NoneIsAhead.{most_known_is}
 use Rattle.sfx_replica.proofs.replica.Replica.most_known.Goals as goal
 
 pub most-requires : goal.most-requires

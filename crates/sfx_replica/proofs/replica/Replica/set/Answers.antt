@@ -2,20 +2,20 @@ use Rattle.std.proofs.Common.{◌≡◌, ◌<◌, ℕ, List, Some, ap, sym, refl
 use Rattle.std.proofs.lemmas.Result.{err_from_is_err_and}
 use Rattle.sfx_item.specs.declared.cell.Cell.{Cell}
 use Rattle.sfx_item.specs.declared.item.Item.{Item}
-use Rattle.sfx_model.specs.Events.{Make}
+use Rattle.sfx_model.specs.world.Events.{Make}
 use Rattle.sfx_item.specs.Item.{Live}
-use Rattle.sfx_model.specs.Members.{Member, shown}
-use Rattle.sfx_model.specs.Replica.{ActsIn, RepresentsReplica}
-use Rattle.sfx_model.specs.States.{cells_with, edited_contents, next_version, with_state}
-use Rattle.sfx_model.proofs.Acts.{edited_acts}
-use Rattle.sfx_provider.proofs.Exits.{when_always}
-use Rattle.sfx_replica.specs.Refusals.{is_refusal}
+use Rattle.sfx_model.specs.members.Members.{Member, shown}
+use Rattle.sfx_model.specs.members.Replica.{ActsIn, RepresentsReplica}
+use Rattle.sfx_model.specs.members.States.{cells_with, edited_contents, next_version, with_state}
+use Rattle.sfx_model.proofs.members.EditsAct.{edited_acts}
+use Rattle.sfx_provider.proofs.AnswerLemmas.{when_always}
+use Rattle.sfx_replica.specs.Refusals.{refuses_edit}
 use Rattle.sfx_replica.specs.Edits.{edited, edited_from, risen}
 use Rattle.sfx_replica.specs.Replica.{member_view}
-use Rattle.sfx_replica.proofs.Consistency.{edited_consistent}
+use Rattle.sfx_replica.proofs.EditsKeepConsistency.{edited_consistent}
 use Rattle.sfx_items.proofs.ItemListLemmas.{at_place}
-use Rattle.sfx_replica.proofs.Refusing.{refused_write}
-use Rattle.sfx_replica.proofs.Writing.{IsWritten, written}
+use Rattle.sfx_replica.proofs.RefusalsLemmas.{refused_write}
+use Rattle.sfx_replica.proofs.EditsLemmas.{IsWritten, written}
 use Rattle.sfx_replica.proofs.replica.Replica.set.Goals as goal
 
 pub returns-in_err-place-clause-refused : goal.returns-in_err-place-clause-refused
@@ -24,7 +24,7 @@ returns-in_err-place-clause-refused g c =
     let (fault, is, same) = err_from_is_err_and c.from_residual.result c.from_residual.ensures.1 in
     let refused = c.in_err-place.ensures.err c.args.self.now c.args.value in
     let here = rw (c.as_slice.ensures.value, items) at refused in
-    rw (is, same) (when_always (is_refusal c.in_err-place.field-0.0) here)
+    rw (is, same) (when_always (refuses_edit c.in_err-place.field-0.0) here)
 
 pub returns-in_err-place-clause-made : goal.returns-in_err-place-clause-made
 returns-in_err-place-clause-made g c =
@@ -160,6 +160,6 @@ returns-clause-acts g c w ok units stands =
     let n = risen m c.write.new.items.items in
     let here : RepresentsReplica w m.id (shown m) = subst (λ (x : Member). RepresentsReplica w x.id (shown x)) (sym c.self.view_is) stands in
     subst (λ (x : Member). ActsIn w (Make x.id c.args.id.now (next_version x) (edited_contents c.args.k c.args.value)) x.id n) c.self.view_is
-    (edited_acts w m n c.args.id.now c.args.k c.args.value wrote.cells ok here c.self.invariant.rising wrote.may.room
+    (edited_acts w m n c.args.id.now c.args.k c.args.value wrote.cells ok here c.self.invariant.ascending wrote.may.room
     (subst (λ (x : ℕ). c.args.k < x) (sym units) wrote.may.inside) wrote.live
     (record { id = refl; clock = refl; knowledge = λ place u r there small other. refl; forgotten = refl; holds = wrote.holds }))

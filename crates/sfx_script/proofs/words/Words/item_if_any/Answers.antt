@@ -1,7 +1,7 @@
 use Rattle.std.proofs.Common.{sym, subst}
 use Rattle.std.proofs.lemmas.Result.{err_from_is_err_and}
 use Rattle.sfx_script.specs.Reading.{Answers, item_if_any}
-use Rattle.sfx_script.proofs.Failing.{item_behind, item_none, item_off, item_there}
+use Rattle.sfx_script.proofs.ReadingFaults.{item_behind, item_none, item_off, item_there}
 use Rattle.sfx_script.proofs.words.Words.item_if_any.Goals as goal
 
 pub returns-in-None : goal.returns-in-None

@@ -1,6 +1,6 @@
 use Rattle.std.proofs.Common.{ap, ◌∙◌}
 use Rattle.sfx_script.specs.Reading.{behind_next, first_of, placed_word}
-use Rattle.sfx_script.proofs.Placing.{is_next}
+use Rattle.sfx_script.proofs.WordPlaces.{is_next}
 use Rattle.sfx_script.proofs.words.Words.pass.Goals as goal
 
 pub invariant_of-self : goal.invariant_of-self

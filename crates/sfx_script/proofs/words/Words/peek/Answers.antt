@@ -1,6 +1,6 @@
 use Rattle.std.proofs.Common.{arith, refl}
 use Rattle.std.proofs.lemmas.List.{take_rest}
-use Rattle.sfx_script.proofs.Placing.{word_left}
+use Rattle.sfx_script.proofs.WordPlaces.{word_left}
 use Rattle.sfx_script.proofs.words.Words.peek.Goals as goal
 
 pub returns-clause-word : goal.returns-clause-word

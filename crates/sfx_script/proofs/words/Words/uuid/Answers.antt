@@ -1,6 +1,6 @@
 use Rattle.std.proofs.Common.{sym}
 use Rattle.std.proofs.lemmas.Result.{err_from_is_err_and}
-use Rattle.sfx_script.proofs.Failing.{gives_fault}
+use Rattle.sfx_script.proofs.ReadingFaults.{gives_fault}
 use Rattle.sfx_script.proofs.words.Words.uuid.Goals as goal
 
 pub returns-in_err-word : goal.returns-in_err-word

@@ -1,7 +1,7 @@
 use Rattle.std.proofs.Common.{ap, arith, length, length-append, subst, sym, ◌∙◌}
 use Rattle.std.proofs.lemmas.Result.{err_from_is_err_and}
 use Rattle.sfx_script.specs.Reading.{Answers, Fails, some_values}
-use Rattle.sfx_script.proofs.Valuing.{values_off, values_on}
+use Rattle.sfx_script.proofs.ValueWords.{values_off, values_on}
 use Rattle.sfx_script.proofs.words.Words.values.Goals as goal
 
 pub returns-in_err-value_in : goal.returns-in_err-value_in
@@ -14,13 +14,13 @@ returns-in_err-value_in c =
 
 pub more-preserved : goal.more-preserved
 more-preserved c =
-    let front = c.more.items.items in
+    let prefix = c.more.items.items in
     let first = sym c.in-Some.ensures.word in
     let items = c.in_ok-push-2.ensures.items in
     let left = ap (λ w. w.left) c.pass.ensures in
-    let len = ap length items ∙ length-append front _ in
+    let len = ap length items ∙ length-append prefix _ in
     record {
       some = omega (arith, len);
       most = omega (arith, len, c.if-len-ge-MAX_VALUES.false);
-      read = rw (items, left) (values_on front c.more.self.left _ _ (omega arith) first c.in_ok-value_in.ensures) ∙ c.more.invariant.read;
+      read = rw (items, left) (values_on prefix c.more.self.left _ _ (omega arith) first c.in_ok-value_in.ensures) ∙ c.more.invariant.read;
     }

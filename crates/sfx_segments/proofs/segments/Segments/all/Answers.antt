@@ -2,7 +2,7 @@ use Rattle.std.proofs.Common.{true, false, subst}
 use Rattle.std.specs.Fn.{FnReturnsAt}
 use Rattle.std.proofs.lemmas.List.Elements.{All-more}
 use Rattle.sfx_ids.specs.declared.cut.Cut.{Cut}
-use Rattle.sfx_segments.proofs.Walks.{walked, stopped}
+use Rattle.sfx_segments.proofs.TestedValues.{walked, stopped}
 use Rattle.sfx_segments.proofs.segments.Segments.all.Goals as goal
 
 pub loop-segment-preserved : goal.loop-segment-preserved

@@ -1,7 +1,7 @@
 use Rattle.std.proofs.Common.{sym, ◌∙◌, subst}
 use Rattle.std.proofs.lemmas.List.{take_all}
 use Rattle.sfx_segments.specs.Segments.{AreSegments}
-use Rattle.sfx_segments.proofs.Getting.{copied_more}
+use Rattle.sfx_segments.proofs.ValueLookup.{copied_more}
 use Rattle.sfx_segments.proofs.segments.Segments.copy.Goals as goal
 
 pub loop-segment-preserved : goal.loop-segment-preserved

@@ -1,6 +1,6 @@
 use Rattle.std.proofs.Common.{◌-◌, length, take, drop, sym, ◌∙◌, subst}
 use Rattle.sfx_segments.specs.Segments.{AreSegments}
-use Rattle.sfx_segments.proofs.Getting.{get_begins, get_goes_on, get_stops, get_ends}
+use Rattle.sfx_segments.proofs.ValueLookup.{get_begins, get_goes_on, get_stops, get_ends}
 use Rattle.sfx_segments.proofs.segments.Segments.get.Goals as goal
 
 pub loop-segment-init : goal.loop-segment-init

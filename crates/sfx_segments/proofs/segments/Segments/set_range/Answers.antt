@@ -1,4 +1,4 @@
-use Rattle.sfx_segments.proofs.Ranges.{covered}
+use Rattle.sfx_segments.proofs.LaidRanges.{covered}
 use Rattle.sfx_segments.proofs.segments.Segments.set_range.Goals as goal
 
 pub returns-clause-ok : goal.returns-clause-ok

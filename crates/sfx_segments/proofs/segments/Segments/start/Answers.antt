@@ -1,6 +1,6 @@
 use Rattle.std.proofs.Common.{length, refl, ◌<◌, subst, sym}
 use Rattle.std.proofs.lemmas.Option.{slice_get_read}
-use Rattle.sfx_segments.proofs.Places.{begins_at_place}
+use Rattle.sfx_segments.proofs.PlaceValues.{begins_at_place}
 use Rattle.sfx_segments.proofs.segments.Segments.start.Goals as goal
 
 pub returns-clause-place : goal.returns-clause-place

@@ -1,6 +1,6 @@
 use Rattle.std.proofs.Common.{max, subst, sym}
 use Rattle.sfx_vector.specs.Clocks.{AreClocks, tick_of}
-use Rattle.sfx_vector.proofs.Entries.{join_at}
+use Rattle.sfx_vector.proofs.ClocksLemmas.{join_at}
 use Rattle.sfx_vector.proofs.clock_vector.ClockVector.join.Goals as goal
 
 pub loop-entry-preserved : goal.loop-entry-preserved

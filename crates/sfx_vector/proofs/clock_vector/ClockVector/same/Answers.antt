@@ -1,5 +1,5 @@
 use Rattle.std.proofs.lemmas.Slice.Eq.{slice_eq-Decides}
-use Rattle.sfx_vector.proofs.Entries.{pair-Decides}
+use Rattle.sfx_vector.proofs.ClocksLemmas.{pair-Decides}
 use Rattle.sfx_vector.proofs.clock_vector.ClockVector.same.Goals as goal
 
 pub returns : goal.returns

@@ -1,7 +1,7 @@
 use Rattle.std.proofs.Common.{◌≡◌, ◌<◌, ◌≤◌, length, get_or, refl, subst, ◌∙◌, arith}
 use Rattle.std.proofs.Math.ListN.{drop_of_length-le}
 use Rattle.sfx_vector.specs.Clocks.{AreClocks, tick_of}
-use Rattle.sfx_vector.proofs.Entries.{tick-item, within_more}
+use Rattle.sfx_vector.proofs.ClocksLemmas.{tick-item, within_more}
 use Rattle.sfx_vector.proofs.clock_vector.ClockVector.within.Goals as goal
 
 pub returns-then-get : goal.returns-then-get

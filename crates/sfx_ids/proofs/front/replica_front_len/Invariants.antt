@@ -1,7 +1,0 @@
-use Rattle.std.proofs.Common.{◌≡◌, Some, take}
-use Rattle.sfx_ids.proofs.Machine.{run}
-use Rattle.sfx_ids.proofs.ReplicaFronts.{next_place}
-use Rattle.sfx_ids.proofs.front.replica_front_len.Given as goal
-
-abbrev pub invariant-loop-place : goal.invariant-loop-place
-invariant-loop-place l = run next_place 0 (take l.place l.text) ≡ Some l.place

@@ -1,5 +1,0 @@
-use Rattle.sfx_ids.proofs.FrontLens.{item_measured, version_measured}
-use Rattle.sfx_ids.proofs.laws.fronts_are_measured.Goals as goal
-
-pub returns : goal.returns
-returns c = record { item = item_measured; version = version_measured }

@@ -1,0 +1,11 @@
+pub mod Members
+pub mod Headline
+pub mod Results
+pub mod Replica
+pub mod StandsIn
+pub mod States
+pub mod Consistent
+pub mod Readings
+pub mod ItemLists
+pub mod Snapshots
+pub mod Examples
