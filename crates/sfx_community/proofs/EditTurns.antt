@@ -8,18 +8,18 @@ use Rattle.sfx_ids.specs.declared.item_id.ItemId.{ItemId}
 use Rattle.sfx_ids.specs.declared.memory.Memory.{Memory}
 use Rattle.sfx_model.specs.world.Events.{Make}
 use Rattle.sfx_model.specs.members.Members.{Member}
-use Rattle.sfx_model.specs.members.States.{created_contents, edited_contents, next_item, next_version}
+use Rattle.sfx_model.specs.members.States.{created_contents, deleted_contents, edited_contents, next_item, next_version}
 use Rattle.sfx_provider.specs.Answer.{When}
 use Rattle.sfx_replica.specs.declared.edit_fault.EditFault.{EditFault}
 use Rattle.sfx_replica.specs.declared.edit_fault.EditFault.TheVariants as edit_faults
-use Rattle.sfx_replica.specs.Edits.{created, edited}
-use Rattle.sfx_replica.specs.Refusals.{create_refusal, refuses_edit, set_refusal}
+use Rattle.sfx_replica.specs.Edits.{created, deleted, edited}
+use Rattle.sfx_replica.specs.Refusals.{create_refusal, delete_refusal, refuses_edit, set_refusal}
 use Rattle.sfx_reply.specs.Reply.{is_memory}
 use Rattle.sfx_reply.specs.declared.reason.Reason.TheVariants.{BadCount, Edit}
 use Rattle.sfx_reply.specs.declared.reply.Reply.{Reply}
 use Rattle.sfx_reply.specs.declared.reply.Reply.TheVariants.{Created, Changed, Refused}
 use Rattle.sfx_community.specs.State.{KeptData, KeptMember, State, kept_as, member_of, members_view, members_with, state_among, state_with}
-use Rattle.sfx_community.specs.Turn.{Turn, acted, create_turn, refused, set_turn}
+use Rattle.sfx_community.specs.Turn.{Turn, acted, create_turn, delete_turn, refused, set_turn}
 use Rattle.sfx_community.proofs.MapEntries.{Entries, stands_at, stands_nowhere, with_replica}
 
 -- the member with a name, and the members with its replica in another state
@@ -78,6 +78,19 @@ pub unedited_turn : (units : ℕ) (ms : List KeptMember) (name : List ℕ) (k : 
     → member_of ms name ≡ Some (kept_as name k) → set_refusal units k.member item unit value ≡ Some fault
     → set_turn (state_among units ms) name item unit value ≡ refused (state_among units ms) (Edit fault)
 unedited_turn units ms name k item unit value fault found is = rw (found, is) refl
+
+-- what a deletion comes to
+pub deleted_turn : (units : ℕ) (ms : List KeptMember) (name : List ℕ) (k : KeptData) (item : ItemId)
+    → member_of ms name ≡ Some (kept_as name k) → delete_refusal k.member item ≡ None
+    → delete_turn (state_among units ms) name item
+    ≡ acted (Changed (next_version k.member)) (Make k.member.id item (next_version k.member) (deleted_contents units))
+    (state_with name (deleted k.member item) (state_among units ms))
+deleted_turn units ms name k item found none = rw (found, none) refl
+
+pub undeleted_turn : (units : ℕ) (ms : List KeptMember) (name : List ℕ) (k : KeptData) (item : ItemId) (fault : EditFault)
+    → member_of ms name ≡ Some (kept_as name k) → delete_refusal k.member item ≡ Some fault
+    → delete_turn (state_among units ms) name item ≡ refused (state_among units ms) (Edit fault)
+undeleted_turn units ms name k item fault found is = rw (found, is) refl
 
 -- what is not out of memory is the refusal
 pub refusal_is : (fault : EditFault) (o : Option EditFault) → When (refuses_edit fault) (o ≡ Some fault) → is_memory fault ≡ false → o ≡ Some fault

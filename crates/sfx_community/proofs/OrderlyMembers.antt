@@ -12,7 +12,7 @@ use Rattle.sfx_knowledge.specs.Forgotten.{AreForgets, nothing_forgotten}
 use Rattle.sfx_knowledge.proofs.KnowledgeLemmas.{IsKnowledge-nothing}
 use Rattle.sfx_model.specs.sessions.Acts.{IsOrderly}
 use Rattle.sfx_model.specs.members.Consistent.{AreApart, live_name}
-use Rattle.sfx_item.specs.Item.{Live, ItemData}
+use Rattle.sfx_item.specs.Item.{Live, Dead, ItemData}
 use Rattle.sfx_model.specs.members.Members.{Community, Member, NamedMember, AreAscending, state_of}
 use Rattle.sfx_model.specs.members.StandsIn.{StateStandsIn}
 use Rattle.sfx_model.specs.members.Readings.{first_clash}
@@ -117,6 +117,14 @@ created_orderly w c d m n values ok stands changes old whole none =
           risen_orderly c.units m (with_item (next_created m values) m.items) old (can_rise m room)
           (with_ascending (next_created m values) m.items old.ascending new)
           (with_apart m (next_created m values) name old.names new apart (λ a at. created_name m values name a first at))
+
+pub deleted_orderly : (units : ℕ) (m : Member) (i : ItemId) (cells : List Cell) → IsOrderly units m
+    → state_of m.items i ≡ Some (Live cells) → m.clock < max_tick
+    → IsOrderly units (risen m (with_state i (Dead (next_version m)) m.items))
+deleted_orderly units m i cells old at room =
+    risen_orderly units m (with_state i (Dead (next_version m)) m.items) old room
+    (state_ascending i (Dead (next_version m)) m.items old.ascending)
+    (state_apart m i (Live cells) (Dead (next_version m)) old.names at (λ a is. let bad : None ≡ Some a = is in absurd (cc)))
 
 pub edited_orderly : (units : ℕ) (m : Member) (i : ItemId) (cells : List Cell) (unit : ℕ) (value : List ℕ) → IsOrderly units m
     → state_of m.items i ≡ Some (Live cells) → MayWrite units m i unit value

@@ -12,13 +12,13 @@ use Rattle.sfx_model.specs.world.Units.{IsUnitCount}
 use Rattle.sfx_model.specs.world.World.{World, WellFormed}
 use Rattle.sfx_model.specs.members.Members.{Member, contains, state_of}
 use Rattle.sfx_model.specs.members.StandsIn.{StateStandsIn}
-use Rattle.sfx_model.specs.members.States.{Continues, IsOf, Rises, next_item, next_version, created_contents, edited_contents}
+use Rattle.sfx_model.specs.members.States.{Continues, IsOf, Rises, next_item, next_version, created_contents, deleted_contents, edited_contents}
 use Rattle.sfx_model.specs.sessions.Acts.{IsOrderly}
-use Rattle.sfx_model.proofs.members.StateContinues.{creation_continues, edit_continues}
+use Rattle.sfx_model.proofs.members.StateContinues.{creation_continues, deletion_continues, edit_continues}
 use Rattle.sfx_replica.specs.declared.edit_fault.EditFault.{EditFault}
 use Rattle.sfx_replica.specs.declared.edit_fault.EditFault.TheVariants.{BadUnit}
-use Rattle.sfx_replica.specs.Edits.{created, edited_from, new_member, risen}
-use Rattle.sfx_replica.specs.Refusals.{create_refusal, first_name_refusal, full_clock, set_refusal, state_refusal}
+use Rattle.sfx_replica.specs.Edits.{created, deleted_from, edited_from, new_member, risen}
+use Rattle.sfx_replica.specs.Refusals.{create_refusal, delete_refusal, deletion_refusal, first_name_refusal, full_clock, set_refusal, state_refusal}
 use Rattle.sfx_replica.proofs.EditsKeepConsistency.{both_none, can_rise, may_write}
 use Rattle.sfx_script.specs.Limits.{IsLimited}
 use Rattle.sfx_script.specs.Reading.{Read, reading_of}
@@ -36,9 +36,9 @@ use Rattle.sfx_reply.specs.declared.reply.Reply.TheVariants.{Done, Created, Chan
 use Rattle.sfx_community.specs.Sameness.{hold_same, know_same}
 use Rattle.sfx_community.specs.History.{IsNotAhead, is_of_session}
 use Rattle.sfx_community.specs.State.{KeptMember, State, community_of, has_name, is_id_taken, member_of, state_added, state_among, state_with}
-use Rattle.sfx_community.specs.Turn.{Turn, acted, answered, create_at, create_by, equal_at, is_built, is_unit_count, knows_at, refused, replica_turn, session_at, set_at, set_by, show_at, sync_by, turn_by, units_turn}
+use Rattle.sfx_community.specs.Turn.{Turn, acted, answered, create_at, create_by, delete_at, delete_by, equal_at, is_built, is_unit_count, knows_at, refused, replica_turn, session_at, set_at, set_by, show_at, sync_by, turn_by, units_turn}
 use Rattle.sfx_community.proofs.StateLemmas.{changes}
-use Rattle.sfx_community.proofs.OrderlyMembers.{created_orderly, edited_orderly}
+use Rattle.sfx_community.proofs.OrderlyMembers.{created_orderly, deleted_orderly, edited_orderly}
 
 -- the world before the line is well-formed, and the state stands in it
 pub record Stands (w : World) (s : State) : Type 0 where
@@ -188,6 +188,33 @@ set_form s name i unit value (Some m) found = by_fault (set_refusal s.units m.me
   by_fault (Some fault) e = refusing s (Edit fault) (λ tick clock is. cc)
   by_fault None e = edits s m _ _ _ (set_edits s m i unit value (state_of m.member.items i) (record { name = name; found = found }) refl e)
 
+-- `delete`
+delete_edits : (s : State) (m : KeptMember) (i : ItemId) (state : Option ItemState)
+    → IsFound s m → state_of m.member.items i ≡ state → deletion_refusal m.member state ≡ None
+    → IsEdit s m (deleted_from m.member i state) (Make m.member.id i (next_version m.member) (deleted_contents s.units)) (Changed (next_version m.member))
+delete_edits s m i None here held free = absurd (cc)
+delete_edits s m i (Some (Dead v)) here held free = absurd (cc)
+delete_edits s m i (Some (Live cells)) here held free =
+    let n = deleted_from m.member i (Some (Live cells)) in
+    let room = can_rise m.member free in
+    record {
+      found = here;
+      plain = record { alone = refl; not_ahead = λ tick clock is. cc; fair = λ is. cc };
+      own = refl;
+      id = refl;
+      continues = λ w at.
+          deletion_continues w (community_of s) (community_of (state_with m.name n s)) m.member n i cells at.ok at.stands
+          (changes s here.name m n here.found) room held (rises s.units m.member n.items);
+      orderly = λ w at orderly. deleted_orderly s.units m.member i cells orderly held room;
+    }
+
+delete_form : (s : State) (name : List ℕ) (i : ItemId) (o : Option KeptMember) → member_of s.members name ≡ o → IsTurn s (delete_at s name o i)
+delete_form s name i None found = refusing s (NoReplica name) (λ tick clock is. cc)
+delete_form s name i (Some m) found = by_fault (delete_refusal m.member i) refl where
+  by_fault : (f : Option EditFault) → delete_refusal m.member i ≡ f → IsTurn s (delete_by s m i f)
+  by_fault (Some fault) e = refusing s (Edit fault) (λ tick clock is. cc)
+  by_fault None e = edits s m _ _ _ (delete_edits s m i (state_of m.member.items i) (record { name = name; found = found }) refl e)
+
 -- `show`, `knows` and `equal`
 show_form : (s : State) (name : List ℕ) (o : Option KeptMember) → IsTurn s (show_at s name o)
 show_form s name None = refusing s (NoReplica name) (λ tick clock is. cc)
@@ -242,7 +269,7 @@ line_form s (Ok (lines.Replica name id)) limits = replica_form s name id limits
 line_form s (Ok (lines.Files name id)) limits = refusing s NotBuilt (λ tick clock is. cc)
 line_form s (Ok (lines.Create name values)) limits = create_form s name values (member_of s.members name) refl
 line_form s (Ok (lines.Set name i unit value)) limits = set_form s name i unit value (member_of s.members name) refl
-line_form s (Ok (lines.Delete name i)) limits = refusing s NotBuilt (λ tick clock is. cc)
+line_form s (Ok (lines.Delete name i)) limits = delete_form s name i (member_of s.members name) refl
 line_form s (Ok (lines.Clean name i)) limits = refusing s NotBuilt (λ tick clock is. cc)
 line_form s (Ok (lines.Scan name)) limits = refusing s NotBuilt (λ tick clock is. cc)
 line_form s (Ok (lines.Sync source destination keep clash options)) limits =

@@ -13,11 +13,11 @@ use Rattle.sfx_model.specs.members.Members.{Member, contains}
 use Rattle.sfx_model.specs.sessions.Moments.{committed}
 use Rattle.sfx_model.specs.sessions.Rules.{RulesData}
 use Rattle.sfx_model.specs.sessions.Session.{SessionResult, session_of}
-use Rattle.sfx_model.specs.members.States.{created_contents, edited_contents, next_item, next_version}
+use Rattle.sfx_model.specs.members.States.{created_contents, deleted_contents, edited_contents, next_item, next_version}
 use Rattle.sfx_replica.specs.declared.edit_fault.EditFault.{EditFault}
 use Rattle.sfx_replica.specs.declared.edit_fault.EditFault.TheVariants.{BadUnit}
-use Rattle.sfx_replica.specs.Edits.{created, edited, new_member}
-use Rattle.sfx_replica.specs.Refusals.{create_refusal, set_refusal}
+use Rattle.sfx_replica.specs.Edits.{created, deleted, edited, new_member}
+use Rattle.sfx_replica.specs.Refusals.{create_refusal, delete_refusal, set_refusal}
 use Rattle.sfx_session.specs.declared.session_fault.SessionFault.{SessionFault}
 use Rattle.sfx_session.specs.Refusals.{session_refusal}
 use Rattle.sfx_model.specs.sessions.Longer.{longer}
@@ -118,6 +118,23 @@ set_at s name (Some m) item unit value =
 -- The line `set`.
 abbrev pub set_turn : State → List ℕ → ItemId → ℕ → List ℕ → Turn
 set_turn s name item unit value = set_at s name (member_of s.members name) item unit value
+
+-- `delete` deletes an item, where nothing refuses it.
+abbrev pub delete_by : State → KeptMember → ItemId → Option EditFault → Turn
+delete_by s m item (Some fault) = refused s (Edit fault)
+delete_by s m item None =
+    acted (Changed (next_version m.member))
+    (Make m.member.id item (next_version m.member) (deleted_contents s.units))
+    (state_with m.name (deleted m.member item) s)
+
+-- The same where the replica's name was looked up.
+abbrev pub delete_at : State → List ℕ → Option KeptMember → ItemId → Turn
+delete_at s name None item = refused s (NoReplica name)
+delete_at s name (Some m) item = delete_by s m item (delete_refusal m.member item)
+
+-- The line `delete`.
+abbrev pub delete_turn : State → List ℕ → ItemId → Turn
+delete_turn s name item = delete_at s name (member_of s.members name) item
 
 -- `show` shows the replica that was looked up.
 abbrev pub show_at : State → List ℕ → Option KeptMember → Turn
@@ -230,7 +247,7 @@ turn_of s (lines.Replica name id) = replica_turn s name id
 turn_of s (lines.Files name id) = refused s NotBuilt
 turn_of s (lines.Create replica values) = create_turn s replica values
 turn_of s (lines.Set replica item unit value) = set_turn s replica item unit value
-turn_of s (lines.Delete replica item) = refused s NotBuilt
+turn_of s (lines.Delete replica item) = delete_turn s replica item
 turn_of s (lines.Clean replica item) = refused s NotBuilt
 turn_of s (lines.Scan replica) = refused s NotBuilt
 turn_of s (lines.Sync source destination keep clash options) = sync_turn s source destination keep clash options

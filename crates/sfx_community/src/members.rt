@@ -3,7 +3,7 @@ ghost use Rattle.std.specs.Option.{option_map_or};
 ghost use Rattle.sfx_script.specs.Limits.{AreWithinLimits, IsLimited};
 ghost use Rattle.sfx_reply.specs.declared.reply.Reply.TheVariants.{Synced};
 ghost use Rattle.sfx_reply.specs.Report.{report_text};
-ghost use Rattle.sfx_community.specs.Turn.{create_turn, equal_turn, is_units, knows_turn, replica_turn, session_turn, set_turn, show_turn, sync_turn, turn_of};
+ghost use Rattle.sfx_community.specs.Turn.{create_turn, delete_turn, equal_turn, is_units, knows_turn, replica_turn, session_turn, set_turn, show_turn, sync_turn, turn_of};
 
 use crate::comparing::know_same;
 use crate::kept::Kept;
@@ -94,6 +94,7 @@ impl<const U: usize> Members<U> {
                 unit,
                 value,
             } => self.set(replica, &item, unit, value),
+            Line::Delete { replica, item } => Ok(self.delete(replica, &item)),
             Line::Show { replica } => self.show(alloc, replica),
             Line::Knows {
                 replica,
@@ -109,9 +110,9 @@ impl<const U: usize> Members<U> {
                 clash,
                 options,
             } => self.sync(alloc, source, destination, keep, clash, &options),
-            Line::Files { .. } | Line::Delete { .. } | Line::Clean { .. } | Line::Scan { .. } => Ok(
-                Reply::Refused(Reason::NotBuilt),
-            ),
+            Line::Files { .. } | Line::Clean { .. } | Line::Scan { .. } => Ok(Reply::Refused(
+                Reason::NotBuilt,
+            )),
         }
     }
 
@@ -187,6 +188,19 @@ impl<const U: usize> Members<U> {
         match self.kept[place].replica.set(item, unit as usize, value) {
             Ok(version) => Ok(Reply::Changed(version)),
             Err(fault) => refusal(fault),
+        }
+    }
+
+    fn delete(&mut self, name: Text, item: &ItemId) -> Reply
+        ensures reply { result ≡ (delete_turn (state_among U self.old) name item.now).reply }
+        ensures after { state_among U self.new ≡ (delete_turn (state_among U self.old) name item.now).state }
+    {
+        let Some(place) = self.kept.get_index_of(&name) else {
+            return no_replica(name);
+        };
+        match self.kept[place].replica.delete(item) {
+            Ok(version) => Reply::Changed(version),
+            Err(fault) => Reply::Refused(Reason::Edit(fault)),
         }
     }
 

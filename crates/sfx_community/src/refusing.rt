@@ -24,6 +24,7 @@ pub(crate) fn refusal_unset(line: Line) -> Reply
         Line::Replica { .. } => Reply::Refused(Reason::NoUnits),
         Line::Create { replica, .. } => no_replica(replica),
         Line::Set { replica, .. } => no_replica(replica),
+        Line::Delete { replica, .. } => no_replica(replica),
         Line::Show { replica } => no_replica(replica),
         Line::Knows { replica, .. } => no_replica(replica),
         Line::Equal { first, .. } => no_replica(first),
@@ -40,7 +41,7 @@ pub(crate) fn refusal_unset(line: Line) -> Reply
                 Reply::Refused(Reason::NotBuilt)
             }
         }
-        Line::Files { .. } | Line::Delete { .. } | Line::Clean { .. } | Line::Scan { .. } => {
+        Line::Files { .. } | Line::Clean { .. } | Line::Scan { .. } => {
             Reply::Refused(Reason::NotBuilt)
         }
     }

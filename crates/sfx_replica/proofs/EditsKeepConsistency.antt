@@ -26,7 +26,7 @@ use Rattle.sfx_knowledge.proofs.ForgottenLemmas.{nothing_form, none_forgotten}
 use Rattle.sfx_knowledge.specs.Knowledge.{HasTicks, IsKnowledge, Known, laid_over, no_row, tick_at}
 use Rattle.sfx_model.specs.members.Consistent.{IsConsistent, IsOwned, AreApart, live_name}
 use Rattle.sfx_model.specs.world.Events.{same_item}
-use Rattle.sfx_item.specs.Item.{version_at, ItemState, Live, ItemData}
+use Rattle.sfx_item.specs.Item.{version_at, ItemState, Live, Dead, ItemData}
 use Rattle.sfx_model.specs.members.Members.{Member, AreAscending, state_of, vector_at}
 use Rattle.sfx_model.specs.members.States.{cells_at, cells_with, next_created, next_item, next_version, with_item, with_state}
 use Rattle.sfx_model.specs.world.World.{IsContained}
@@ -422,6 +422,38 @@ may_write units m i unit value none = by_unit (nat_lt unit units) refl none
     by_unit true less free = may_write_unit units m i unit value (ltb-true unit units less) free
     by_unit false more free = let bad : Some (BadUnit unit units) ≡ None = free in absurd (cc)
 
+-- Another state of one item keeps a replica consistent, where that state is whole and known, and no other live name
+-- is in the way of its name.
+state_consistent :
+    (units : ℕ) (m : Member) (i : ItemId) (old new : ItemState)
+    → IsConsistent units m → state_of m.items i ≡ Some old → m.clock < max_tick
+    → IsOwned units (risen m (with_state i new m.items)) i new
+    → ((a : List ℕ) → live_name new ≡ Some a → (first_clash a (Some i) m.items ≡ None) ⊎ (live_name old ≡ Some a))
+    → IsConsistent units (risen m (with_state i new m.items))
+state_consistent units m i old new ok at room owned names =
+    rises units m (with_state i new m.items) ok room
+    (state_ascending i new m.items ok.ascending)
+    (λ j state there. each j state there (same_item i j) refl)
+    (state_apart m i old new ok.names at names)
+  where
+    each :
+        (j : ItemId) (state : ItemState) → state_of (with_state i new m.items) j ≡ Some state
+        → (b : Bool) → same_item i j ≡ b → IsOwned units (risen m (with_state i new m.items)) j state
+    each j state there true same =
+        let id : i ≡ j = same_item_is i j same in
+        let both : Some new ≡ Some state =
+        sym (state_found i new old m.items at) ∙ subst (λ (r : ItemId). state_of (with_state i new m.items) r ≡ Some state) (sym id) there in
+        let is : new ≡ state = cc in
+        subst (λ (r : ItemId). IsOwned units (risen m (with_state i new m.items)) r state) id
+        (subst (λ (s : ItemState). IsOwned units (risen m (with_state i new m.items)) i s) is owned)
+    each j state there false other =
+        let differ : i ≢ j = λ same.
+        let bad : true ≡ false =
+        sym (same_item_self i) ∙ subst (λ (r : ItemId). same_item i r ≡ false) (sym same) other in
+        cc in
+        let was : state_of m.items j ≡ Some state = sym (state_others i new m.items j differ) ∙ there in
+        owned_still units m (with_state i new m.items) j state (ok.items j state was)
+
 -- An edit keeps the state consistent.
 pub edited_consistent :
     (units : ℕ) (m : Member) (i : ItemId) (cells : List Cell) (unit : ℕ) (value : List ℕ)
@@ -429,42 +461,29 @@ pub edited_consistent :
     → IsConsistent units (risen m (with_state i (Live (cells_with m cells unit value)) m.items))
 edited_consistent units m i cells unit value ok at may =
     let new : ItemState = Live (cells_with m cells unit value) in
-    rises units m (with_state i (Live (cells_with m cells unit value)) m.items) ok may.room
-    (state_ascending i (Live (cells_with m cells unit value)) m.items ok.ascending)
-    (λ j state there. owned may j state there (same_item i j) refl)
-    (state_apart m i (Live cells) (Live (cells_with m cells unit value)) ok.names at
-    (λ a is. names may a is))
-  where
-    names :
-        MayWrite units m i unit value
-        → (a : List ℕ) → live_name (Live (cells_with m cells unit value)) ≡ Some a
-        → (first_clash a (Some i) m.items ≡ None) ⊎ (live_name (Live cells) ≡ Some a)
-    names may a is = elim (set_name cells unit (record { version = next_version m; value = value }) a is) [
+    state_consistent units m i (Live cells) new ok at may.room
+    (edited_owned units m i unit value cells (with_state i new m.items) (ok.items i (Live cells) at) (λ zeroth. (may.named zeroth).0))
+    (λ a is. elim (set_name cells unit (record { version = next_version m; value = value }) a is) [
       | inl (zeroth, same) ↦ inl (subst (λ (n : List ℕ). first_clash n (Some i) m.items ≡ None) same (may.named zeroth).1)
       | inr before ↦ inr before
-    ]
+    ])
 
-    owned :
-        MayWrite units m i unit value
-        → (j : ItemId) (state : ItemState) → state_of (with_state i (Live (cells_with m cells unit value)) m.items) j ≡ Some state
-        → (b : Bool) → same_item i j ≡ b → IsOwned units (risen m (with_state i (Live (cells_with m cells unit value)) m.items)) j state
-    owned may j state there true same =
-        let id : i ≡ j = same_item_is i j same in
-        let found = state_found i (Live (cells_with m cells unit value)) (Live cells) m.items at in
-        let both : Some (Live (cells_with m cells unit value)) ≡ Some state =
-        sym found ∙ subst (λ (r : ItemId). state_of (with_state i (Live (cells_with m cells unit value)) m.items) r ≡ Some state) (sym id) there in
-        let is : Live (cells_with m cells unit value) ≡ state = cc in
-        subst (λ (r : ItemId). IsOwned units (risen m (with_state i (Live (cells_with m cells unit value)) m.items)) r state) id
-        (subst (λ (s : ItemState). IsOwned units (risen m (with_state i (Live (cells_with m cells unit value)) m.items)) i s) is
-        (edited_owned units m i unit value cells (with_state i (Live (cells_with m cells unit value)) m.items)
-        (ok.items i (Live cells) at) (λ zeroth. (may.named zeroth).0)))
-    owned may j state there false other =
-        let differ : i ≢ j = λ same.
-        let bad : true ≡ false =
-        sym (same_item_self i) ∙ subst (λ (r : ItemId). same_item i r ≡ false) (sym same) other in
-        cc in
-        let was : state_of m.items j ≡ Some state = sym (state_others i (Live (cells_with m cells unit value)) m.items j differ) ∙ there in
-        owned_still units m (with_state i (Live (cells_with m cells unit value)) m.items) j state (ok.items j state was)
+-- So does a deletion.
+pub deleted_consistent :
+    (units : ℕ) (m : Member) (i : ItemId) (cells : List Cell)
+    → IsConsistent units m → state_of m.items i ≡ Some (Live cells) → m.clock < max_tick
+    → IsConsistent units (risen m (with_state i (Dead (next_version m)) m.items))
+deleted_consistent units m i cells ok at room =
+    let items = with_state i (Dead (next_version m)) m.items in
+    state_consistent units m i (Live cells) (Dead (next_version m)) ok at room
+    (record {
+      whole = tt;
+      creation = (owned_still units m items i (Live cells) (ok.items i (Live cells) at)).creation;
+      versions = λ u v small is.
+          let same : next_version m ≡ v = cc in
+          subst (λ (x : Version). IsContained (vector_at (risen m items) (At i) u) x) same (knows_next m items (At i) u);
+    })
+    (λ a is. let bad : None ≡ Some a = is in absurd (cc))
 
 -- Nothing is known and nothing forgotten, at any place.
 nowhere_known : (b : Bool) (u r : ℕ) → tick_of (row_at (if b then no_row else no_row) u) r ≡ 0

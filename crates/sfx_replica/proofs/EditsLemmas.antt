@@ -1,18 +1,19 @@
 -- What a write to one unit of a replica's item makes of its items.
-use Rattle.std.proofs.Common.{◌≡◌, ℕ, Bool, true, List, Some, None, if◌then◌else◌, nat_eq, get_or, set, slice_set, refl, subst, sym, ap, ◌∙◌}
+use Rattle.std.proofs.Common.{◌≡◌, ℕ, ◌<◌, Bool, true, List, Some, None, if◌then◌else◌, nat_eq, get_or, set, slice_set, refl, subst, sym, ap, ◌∙◌}
 use Rattle.std.proofs.lemmas.List.{set-get_or}
 use Rattle.std.specs.Option.{option_or}
 use Rattle.std.specs.List.{position_from}
 use Rattle.sfx_ids.specs.declared.item_id.ItemId.{ItemId}
+use Rattle.sfx_ids.specs.Tick.{max_tick}
 use Rattle.sfx_ids.specs.declared.version.Version.{Version}
 use Rattle.sfx_item.specs.declared.cell.Cell.{Cell}
 use Rattle.sfx_item.specs.Name.{IsName}
 use Rattle.sfx_item.specs.Item.{ItemState, Live, Dead, ItemData}
 use Rattle.sfx_model.specs.members.Members.{Member, state_of}
 use Rattle.sfx_model.specs.members.States.{cells_with, next_version, with_state}
-use Rattle.sfx_replica.specs.Items.{IsTarget}
+use Rattle.sfx_replica.specs.Items.{IsLiveAt, IsTarget}
 use Rattle.sfx_replica.specs.Refusals.{full_clock, name_refusal}
-use Rattle.sfx_replica.proofs.EditsKeepConsistency.{MayWrite, may_write_unit}
+use Rattle.sfx_replica.proofs.EditsKeepConsistency.{MayWrite, can_rise, may_write_unit}
 use Rattle.sfx_items.specs.Places.{has_id}
 use Rattle.sfx_items.proofs.ItemListLemmas.{IsPlace, at_place, id_there, state_there}
 
@@ -37,6 +38,37 @@ written_view xs i k unit old row after cells cell done found is state live put m
     let new : after ≡ slice_set cells unit cell = rw (made, rows) at put in
     edited_view xs i k old (record { id = old.id; state = Live after }) (slice_set cells unit cell) place is refl
     (ap (λ (c : List Cell). Live c) new)
+
+-- a tombstone in the place of an item
+pub buried_view : (xs : List ItemData) (i : ItemId) (k : ℕ) (old : ItemData) (v : Version)
+    → position_from (has_id i) 0 xs ≡ Some k → old ≡ get_or xs k old
+    → set xs k (record { id = old.id; state = Dead v }) ≡ with_state i (Dead v) xs
+buried_view xs i k old v found is =
+    let place = at_place xs xs i k (Some k) refl (sym found) refl in
+    place.put (record { id = old.id; state = Dead v }) (id_there xs i k old place is)
+
+-- The items are those of the replica after a live one was deleted.
+pub record IsBuried (m : Member) (i : ItemId) (items : List ItemData) : Type 0 where
+  pub cells : List Cell
+  pub live : state_of m.items i ≡ Some (Live cells)
+  pub room : m.clock < max_tick
+  pub holds : items ≡ with_state i (Dead (next_version m)) m.items
+
+pub buried : (m n : Member) (xs ys after : List ItemData) (i : ItemId) (place : ℕ) (made : Version)
+    → m ≡ n → xs ≡ m.items → ys ≡ xs → IsLiveAt ys i place → full_clock n ≡ None → made ≡ next_version n
+    → ((j : ItemId) → position_from (has_id j) 0 xs ≡ Some place → after ≡ with_state j (Dead made) xs)
+    → IsBuried m i after
+buried m n xs ys after i place made view view_items same at free is put =
+    let found : position_from (has_id i) 0 xs ≡ Some place = subst (λ (zs : List ItemData). position_from (has_id i) 0 zs ≡ Some place) same at.found in
+    let there : state_of xs i ≡ Some (Live at.live.0) =
+    subst (λ (zs : List ItemData). state_of zs i ≡ Some (Live at.live.0)) same at.live.1 in
+    let new : made ≡ next_version m = subst (λ (x : Member). made ≡ next_version x) (sym view) is in
+    record {
+      cells = at.live.0;
+      live = rw view_items at there;
+      room = can_rise m (subst (λ (x : Member). full_clock x ≡ None) (sym view) free);
+      holds = rw (new, view_items) at (put i found);
+    }
 
 pub unwritten : (xs : List ItemData) (k : ℕ) (old : ItemData) (row after : List Cell)
     → old ≡ get_or xs k old → old.state ≡ Live row → after ≡ row

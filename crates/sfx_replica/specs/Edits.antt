@@ -5,7 +5,7 @@ use Rattle.sfx_knowledge.specs.Knowledge.{nothing_known}
 use Rattle.sfx_knowledge.specs.Forgotten.{nothing_forgotten}
 use Rattle.sfx_item.specs.Item.{ItemState, Live, Dead, ItemData}
 use Rattle.sfx_model.specs.members.Members.{Member, state_of}
-use Rattle.sfx_model.specs.members.States.{cells_with, next_created, with_item, with_state}
+use Rattle.sfx_model.specs.members.States.{cells_with, next_created, next_version, with_item, with_state}
 
 -- A replica that has made, learned and forgotten nothing.
 abbrev pub new_member : ℕ → Member
@@ -34,3 +34,13 @@ edited_from m i unit value (Some (Live cells)) = risen m (with_state i (Live (ce
 -- The replica after it wrote a value to one unit of the item.
 abbrev pub edited : Member → ItemId → ℕ → List ℕ → Member
 edited m i unit value = edited_from m i unit value (state_of m.items i)
+
+-- The replica after it deleted an item in this state. A live one becomes a tombstone, and only such a one.
+abbrev pub deleted_from : Member → ItemId → Option ItemState → Member
+deleted_from m i None = m
+deleted_from m i (Some (Dead version)) = m
+deleted_from m i (Some (Live cells)) = risen m (with_state i (Dead (next_version m)) m.items)
+
+-- The replica after it deleted the item.
+abbrev pub deleted : Member → ItemId → Member
+deleted m i = deleted_from m i (state_of m.items i)

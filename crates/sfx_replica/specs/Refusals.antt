@@ -62,3 +62,13 @@ state_refusal units m i unit value (Some (Live cells)) = write_refusal units m i
 -- The value may not be written to the unit of the item.
 abbrev pub set_refusal : ℕ → Member → ItemId → ℕ → List ℕ → Option EditFault
 set_refusal units m i unit value = state_refusal units m i unit value (state_of m.items i)
+
+-- An item in this state may not be deleted.
+abbrev pub deletion_refusal : Member → Option ItemState → Option EditFault
+deletion_refusal m None = Some NoItem
+deletion_refusal m (Some (Dead version)) = Some Deleted
+deletion_refusal m (Some (Live cells)) = full_clock m
+
+-- The item may not be deleted.
+abbrev pub delete_refusal : Member → ItemId → Option EditFault
+delete_refusal m i = deletion_refusal m (state_of m.items i)

@@ -5,10 +5,10 @@ ghost use Rattle.sfx_ids.specs.declared.item_id.ItemId.{ItemId};
 ghost use Rattle.sfx_item.specs.Name.{IsName};
 ghost use Rattle.sfx_item.specs.declared.cell.Cell.{Cell};
 ghost use Rattle.sfx_items.specs.Places.{has_id};
-ghost use Rattle.sfx_item.specs.Item.{Live};
+ghost use Rattle.sfx_item.specs.Item.{Live, Dead};
 ghost use Rattle.sfx_model.specs.members.Members.{AreAscending, Member, state_of};
 ghost use Rattle.sfx_model.specs.members.States.{cells_at, with_state};
-ghost use Rattle.sfx_replica.specs.Items.{IsTarget};
+ghost use Rattle.sfx_replica.specs.Items.{IsLiveAt, IsTarget, not_live};
 ghost use Rattle.sfx_replica.specs.Refusals.{state_refusal};
 
 use crate::EditFault;
@@ -16,6 +16,22 @@ use sfx_ids::{ItemId, Memory, UnitId, Version};
 use sfx_item::{Cell, Item, State, Value};
 use sfx_items::place_of;
 use std::alloc::{AllocError, Global};
+
+/// Where the item stands, which has to be live.
+pub fn live_place<const U: usize>(items: &[Item<U>], id: &ItemId) -> Result<usize, EditFault>
+    requires ascending { AreAscending items.now }
+    ensures ok { IfOk result (λ place. IsLiveAt items.now id.now place) }
+    ensures err { IfErr result (λ fault. not_live (state_of items.now id.now) ≡ Some fault) }
+{
+    let Some(place) = place_of(items, id) else {
+        return Err(EditFault::NoItem);
+    };
+    let item: &Item<U> = &items[place];
+    match &item.state {
+        State::Live(_) => Ok(place),
+        State::Dead(_) => Err(EditFault::Deleted),
+    }
+}
 
 /// Where the item stands whose unit `k` can be written to, and that unit. What refuses this refuses any
 /// value.
@@ -29,13 +45,7 @@ pub fn target<const U: usize>(
     ensures err { let state = state_of items.now id.now in
         IfErr result (λ fault. (m : Member) (value : List ℕ) → state_refusal U m id.now k value state ≡ Some fault) }
 {
-    let Some(place) = place_of(items, id) else {
-        return Err(EditFault::NoItem);
-    };
-    let item: &Item<U> = &items[place];
-    if let State::Dead(_) = &item.state {
-        return Err(EditFault::Deleted);
-    }
+    let place = live_place(items, id)?;
     match UnitId::new(k) {
         Some(unit) => Ok((place, unit)),
         None => Err(EditFault::BadUnit { k, u: U }),
@@ -66,6 +76,16 @@ pub fn write<const U: usize>(
         }
         State::Dead(_) => Ok(()),
     }
+}
+
+/// Puts a tombstone of this version in the place of an item's state.
+pub fn bury<const U: usize>(items: &mut Vec<Item<U>>, place: usize, version: &Version)
+    requires there { place < vec_len items.old }
+    ensures { (i : ItemId) → position_from (has_id i) 0 items.old.items ≡ Some place →
+        items.new.items ≡ with_state i (Dead version.now) items.old.items }
+{
+    let item: &mut Item<U> = &mut items[place];
+    item.state = State::Dead(*version);
 }
 
 /// A cell for each value, all of one version.

@@ -1,9 +1,10 @@
 ghost use Rattle.std.specs.Option.{option_copied, option_map, option_map_or, option_or};
-ghost use Rattle.std.specs.Prelude.{◌≡◌, ◌≤◌, ◌↔◌, if◌then◌else◌, nat_eq, Some, None, length, map, take, IsTrue, IfOk, OnOk, OnErr, IfSome};
+ghost use Rattle.std.specs.Result.{result_err};
+ghost use Rattle.std.specs.Prelude.{◌≡◌, ◌≤◌, ◌↔◌, if◌then◌else◌, nat_eq, true, Some, None, length, map, take, IsTrue, IfOk, IfErr, OnOk, OnErr, IfSome};
 
 use crate::EditFault;
 use crate::clashes::{clashing, first_clash};
-use crate::items::{cells_at, target, write};
+use crate::items::{bury, cells_at, live_place, target, write};
 use crate::live::same_live;
 use crate::unseen::unseen;
 use sfx_ids::{Cut, ItemId, MAX_TICK, Memory, ReplicaId, Tick, UnitId, Version};
@@ -47,16 +48,16 @@ impl<const U: usize> Replica<U> {
     ghost use Rattle.sfx_model.specs.sessions.MemberKnowledge.{most_known, names_id};
     ghost use Rattle.sfx_model.specs.members.Members.{contains, shown, state_of, vector_at};
     ghost use Rattle.sfx_model.specs.members.Replica.{ActsIn, RepresentsReplica};
-    ghost use Rattle.sfx_model.specs.members.States.{created_contents, edited_contents, next_created, next_item, next_version};
+    ghost use Rattle.sfx_model.specs.members.States.{created_contents, deleted_contents, edited_contents, next_created, next_item, next_version};
     ghost use Rattle.sfx_model.specs.world.World.{WellFormed, World};
     ghost use Rattle.sfx_model.specs.members.Readings.{clashing_with, unseen};
     ghost use Rattle.sfx_provider.specs.Answer.{Refuses};
     ghost use Rattle.sfx_provider.specs.Commit.{after_commit};
     ghost use Rattle.sfx_provider.specs.Fits.{FitsMember};
     ghost use Rattle.sfx_provider.specs.Head.{head_of};
-    ghost use Rattle.sfx_replica.specs.Edits.{created, edited, new_member};
+    ghost use Rattle.sfx_replica.specs.Edits.{created, deleted, edited, new_member};
     ghost use Rattle.sfx_model.specs.members.Readings.{first_from};
-    ghost use Rattle.sfx_replica.specs.Refusals.{create_refusal, full_clock, refuses_edit, name_refusal, set_refusal};
+    ghost use Rattle.sfx_replica.specs.Refusals.{create_refusal, delete_refusal, full_clock, refuses_edit, name_refusal, set_refusal};
 
     /// A replica that has made, learned and forgotten nothing.
     ///
@@ -283,6 +284,28 @@ impl<const U: usize> Replica<U> {
         Ok(version)
     }
 
+    /// Deletes a live item, at the next tick: a tombstone of that version stays. It takes no memory.
+    ///
+    /// # Errors
+    /// `NoItem` and `Deleted` by what the replica holds under the id, and `ClockFull`. Nothing has changed
+    /// then.
+    pub fn delete(&mut self, id: &ItemId) -> Result<Version, EditFault>
+        ensures refused { result_err result ≡ delete_refusal self.old id.now }
+        ensures made { IfOk result (λ version. version ≡ next_version self.old) }
+        ensures after { OnOk result (self.new ≡ deleted self.old id.now) }
+        ensures err { OnErr result (self.new ≡ self.old) }
+        ensures acts { OnOk result ((w : World) → WellFormed w → w.units ≡ U →
+            RepresentsReplica w self.old.id (shown self.old) →
+            ActsIn w (Make self.old.id id.now (next_version self.old) (deleted_contents U))
+            self.old.id self.new) }
+    {
+        let place = live_place(self.items.as_slice(), id)?;
+        let made = self.next_version()?;
+        bury(&mut self.items, place, &made);
+        self.clock += 1;
+        Ok(made)
+    }
+
     /// Changes the replica as the commit says: its clock, what it knows and what it has forgotten, and the
     /// items that are put and dropped. All else stays.
     ///
@@ -368,6 +391,7 @@ impl<const U: usize> Replica<U> {
     /// The version that is made next.
     fn next_version(&self) -> Result<Version, EditFault>
         ensures refused { Refuses refuses_edit result (full_clock self.now) }
+        ensures memory { IfErr result (λ fault. refuses_edit fault ≡ true) }
         ensures value { IfOk result (λ version. version ≡ next_version self.now) }
     {
         if self.clock >= MAX_TICK {

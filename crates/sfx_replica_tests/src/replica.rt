@@ -1,5 +1,7 @@
 //! The edits that the users of small replicas make.
-use crate::fixtures::{counts, create, is_pair, item_id, pair, set, unit, version, with_names};
+use crate::fixtures::{
+    counts, create, create_two, is_pair, item_id, pair, set, unit, version, with_names,
+};
 use sfx_ids::{ItemId, ReplicaId, UnitId, Version};
 use sfx_item::State;
 use sfx_knowledge::Knowledge;
@@ -216,4 +218,47 @@ fn refuses_values(rt: HostRuntime) {
         );
     }
     drop(replica);
+}
+
+/// Whether the item is a tombstone of this version.
+fn is_dead_at(replica: &Replica<2>, id: &ItemId, version: &Version) -> bool {
+    match replica.item(id) {
+        Some(item) => match &item.state {
+            State::Live(_) => false,
+            State::Dead(deleted) => deleted == version,
+        },
+        None => false,
+    }
+}
+
+/// What answers where the item is deleted, and then written to and deleted again.
+fn deleted(
+    rt: &impl Abort,
+    alloc: Global,
+    replica: &mut Replica<2>,
+    id: &ItemId,
+) -> [Result<Version, EditFault>; 3] {
+    [
+        replica.delete(id),
+        set(rt, alloc, replica, id, 1, "x"),
+        replica.delete(id),
+    ]
+}
+
+/// A live item is to be deleted at the next tick, once, and to take no text then. Its name is free.
+#[test]
+fn deletes_an_item(rt: HostRuntime) {
+    let mut replica = pair(&rt, rt.alloc(), 10);
+    let id = item_id(&rt, 1, 10);
+    let made = version(&rt, 10, 3);
+    let answers = deleted(&rt, rt.alloc(), &mut replica, &id);
+    let absent = replica.delete(&item_id(&rt, 3, 10));
+    let is_dead = is_dead_at(&replica, &id, &made);
+    let created = create_two(&rt, rt.alloc(), &mut replica, "a/c", "");
+    let counts = counts(&replica);
+    drop(replica);
+    let gone = Err(EditFault::Deleted);
+    assert!(rt; answers == [Ok(made), gone, gone]);
+    assert!(rt; absent == Err(EditFault::NoItem) && is_dead);
+    assert!(rt; created == Ok(item_id(&rt, 4, 10)) && counts == (4, 3));
 }

@@ -27,6 +27,12 @@ returns-in-Set-clause-after g c = rw c.in-Set.is c.set.ensures.after
 pub returns-in-Set-clause-err : goal.returns-in-Set-clause-err
 returns-in-Set-clause-err g c = c.set.ensures.err
 
+pub returns-in-Delete-clause-reply : goal.returns-in-Delete-clause-reply
+returns-in-Delete-clause-reply g c = rw c.in-Delete.is c.delete.ensures.reply
+
+pub returns-in-Delete-clause-after : goal.returns-in-Delete-clause-after
+returns-in-Delete-clause-after g c = rw c.in-Delete.is c.delete.ensures.after
+
 pub returns-in-Sync-clause-reply : goal.returns-in-Sync-clause-reply
 returns-in-Sync-clause-reply g c = rw c.in-Sync.is c.sync.ensures.reply
 
